@@ -1,0 +1,4 @@
+pub mod Steps
+pub mod WordLaws
+pub mod PlaceLaws
+pub mod Unique

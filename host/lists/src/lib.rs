@@ -1,0 +1,25 @@
+//! Cases for the run of document 01, by class, deterministic by seed.
+#![forbid(unsafe_code)]
+
+mod class;
+mod crossed;
+mod damaged;
+mod dress;
+mod fixture;
+mod grammar;
+mod list;
+mod long;
+mod mutated;
+pub mod named;
+pub mod notation;
+mod real;
+mod rng;
+mod rooms;
+mod short;
+mod steered;
+mod words;
+
+pub use class::{class, Cases, Class, CLASSES};
+pub use fixture::fixture;
+pub use list::List;
+pub use real::FILES;
