@@ -1,5 +1,5 @@
 -- Laws of reading tokens. Assumes nothing.
-use mathlib.Core.Path.{_≡_, refl}
+use mathlib.Core.Path.{_≡_, refl, sym, _∙_}
 use mathlib.Core.Bool.{Bool, true, false, cond}
 use mathlib.Core.List.{List}
 use Prim.Native.Nat.{ℕ, _%_, _^_, _<_, _≤_}
@@ -9,6 +9,7 @@ use lib.Dec.{leb}
 use Rattle.places.specs.Places.{places}
 use Rattle.records.specs.Tokens.{readAt, found, refused, lastEnd, good, tokenAt}
 use Rattle.records.specs.declared.tokens.Token.{Token}
+use Rattle.records.specs.declared.tokens.Read.{Read}
 use Rattle.records.specs.declared.tokens.Read.the-variants as read
 
 module _ (b : List ℕ) (size at : ℕ) where
@@ -40,3 +41,7 @@ module _ (b : List ℕ) (size at : ℕ) where
         → cond y (read.Token (tokenAt b at)) (refused 21 (at % 2 ^ 32)) ≡ read.Token (tokenAt b at)
     go true e = refl
     go false e = let z : _≡_ {A = ℕ} 0 1 = cc in absurd (omega arith)
+
+-- a token that was read stands in the list
+pub inside : (b : List ℕ) (size at : ℕ) {r : Read} {t : Token} → r ≡ readAt b size at → r ≡ read.Token t → at < places b 32
+inside b size at {r} {t} e f = got b size at t (sym e ∙ f) .inside

@@ -1,5 +1,6 @@
 // Tokens: records of 32 bytes, and what reading one finds.
 ghost use mathlib.Core.Path.{_≡_};
+ghost use lib.ListN.{length};
 ghost use Rattle.records.specs.Tokens.{usesA, usesB, usesStyle, rangeIf, styleIf, tokenAt, within, good, lastEnd, readAt};
 use crate::names;
 use crate::names::Range;
@@ -196,17 +197,16 @@ fn last_end(tokens: &[u8]) -> u32
     places::field(tokens, Token::SIZE, n - 1, 2)
 }
 
-// The token at place `at` over a text of `size` bytes: 21 where its record is bad, 14 where the
-// list has ended.
-pub fn read_token(tokens: &[u8], size: usize, at: usize) -> Read
-    ensures { λ r. ⌜ r ≡ readAt (now (tokens .entry)) size at ⌝ }
+// The token at place `at` over the text: 21 where its record is bad, 14 where the list has ended.
+pub fn read_token(tokens: &[u8], text: &[u8], at: usize) -> Read
+    ensures { λ r. ⌜ r ≡ readAt (now (tokens .entry)) (length (now (text .entry))) at ⌝ }
 {
     if at >= tokens.len() / Token::SIZE {
         let place = last_end(tokens);
         return Read::Refused(Refusal { number: 14, place });
     }
     let t = token_at(tokens, at);
-    if is_good(t, size) {
+    if is_good(t, text.len()) {
         Read::Token(t)
     } else {
         let place = (at % 4294967296) as u32;

@@ -1,0 +1,16 @@
+pub mod StateLaws
+pub mod Starred
+pub mod ListLaws
+pub mod WordLaws
+pub mod Weights
+pub mod Sizes
+pub mod Steps
+pub mod Runs
+pub mod Sound
+pub mod NeverStuck
+pub mod Bounds
+pub mod Witness
+pub mod Rooms
+pub mod WalkSteps
+pub mod Walks
+pub mod Unique
