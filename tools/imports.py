@@ -16,8 +16,10 @@ def words(text):
 
 
 def used(name, seen):
-    """An operator is used where each of its parts stands; a renamed import where its new name does."""
+    """An operator is used where it or each of its parts stands; a renamed import where its new name does."""
     name = name.split(" as ")[-1].strip()
+    if name in seen:
+        return True
     parts = [p for p in name.split("_") if p] if "_" in (name[0], name[-1]) else [name]
     return all(p in seen for p in parts)
 

@@ -108,17 +108,17 @@ def way(place, own, needs, start, extra):
 
 
 def inside(place, own, start):
-    """The place of the token last read lies in the list: so the next place is a number too."""
-    path, at, given = "c", start, None
+    """The place of the token last read lies in the list, whose length is a number: so the next place is one too."""
+    path, at, given, read = "c", start, None, None
     while at != "Start":
         field, before = place[at]
-        if re.match(r"read-token\d*$", field) and given:
-            return f"(λ c. omega (arith, inside _ _ _ ({path} .{field} .ensures) ({given} .given .1)))"
-        if "given" in own.get(at, "") and (before or "").startswith("At-match"):
+        if re.match(r"read-token\d*$", field) and given and not read:
+            read = f"inside _ _ _ ({path} .{field} .ensures) ({given} .given .1)"
+        if "given" in own.get(at, "") and (before or "").startswith("At-match") and not given:
             given = f"{path} .{field}"
         at = before
         path += " .before"
-    return "(search needs)"
+    return f"(λ c. let tokens = {path} .good .1 .0 in omega (arith, {read}, tokens))" if read else "(search needs)"
 
 
 def chained(place, own, needs, start, extra):
@@ -183,6 +183,8 @@ def chained(place, own, needs, start, extra):
 
 def answer(need, place, own, needs, extra):
     name = need[5:]
+    if f"{FUNCTION} {name}" in GIVEN:
+        return GIVEN[f"{FUNCTION} {name}"]
     if name.startswith("add-"):
         return inside(place, own, needs[need])
     if re.match(r"returns(-\d+)?$", name):
@@ -193,7 +195,7 @@ def answer(need, place, own, needs, extra):
             return "(λ c. search needs)"
         body = "simp (add-one, " + ", ".join(facts) + ")"
         return "(λ c. " + body + ")" if not lets else "(λ c.\n    " + "\n    ".join(lets) + "\n    " + body + ")"
-    return GIVEN.get(f"{FUNCTION} {name}", "(search needs)")
+    return "(search needs)"
 
 
 def homes(crate, names):
@@ -275,6 +277,7 @@ def main():
             module, name = function.replace("/", "."), function.split("/")[-1].replace("_", "-")
             hole = f"use Rattle.{crate}.proofs.{module}.Statement.{{statement}}\n\npub {name}-spec : {{M : Type 1}} → statement M\n{name}-spec = ?\n"
             open(path + "/Proof.antt", "w").write(hole)
+    os.chdir(ROOT)
     subprocess.run(["rt", "dev", crate, "--generated", f"{ROOT}/target/gen"], capture_output=True)
     for item in items:
         write(crate, item)

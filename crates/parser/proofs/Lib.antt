@@ -1,0 +1,4 @@
+pub mod Arms
+pub mod NodeLaws
+pub mod By
+pub mod TagLaws
