@@ -5,7 +5,10 @@ FUNCTION is the folder of its proof, as Machine/stream_start; the names are the 
 Each return is one `simp` over the way that led there: what each call ensures, which case a match found, which test
 held, the last first. What a call ensures is read from left to right, but where its result is matched or tested at once.
 Every other need is left to `search needs`. `rt dev CRATE` then says what is left to do by hand.
---with FILE gives answers to needs, a line each: FUNCTION NEED TERM. A name `+MODULE.law` adds a law of the crate's proofs to each `simp`, and `^pre` what the function requires."""
+The name `~` has each return follow its rule by the laws of proofs/By.antt instead, one for each test on the way, with a
+`simp` only at the end: for steps whose rule is too large for one `simp`. A name `+MODULE.law` adds a law of the crate's
+proofs to each `simp`, `^pre` what the function requires. --with FILE gives answers to needs, a line each: FUNCTION
+NEED TERM. A function with no Proof.antt gets one with a hole first, so that no search runs."""
 import os
 import re
 import subprocess
