@@ -3,6 +3,7 @@ ghost use mathlib.Core.Path.{_≡_};
 ghost use mathlib.Core.Bool.{_&&_};
 ghost use mathlib.Core.List.{[], _∷_};
 ghost use Rattle.rules.specs.Rules.Words.{oneOf, is};
+ghost use Rattle.parser.specs.Documents.{marks};
 use records::tokens::Token;
 
 pub(crate) fn ends_entry(kind: u32) -> bool
@@ -134,4 +135,15 @@ pub(crate) fn when(flag: bool, t: Token, kind: u32) -> bool
     ensures { λ r. ⌜ r ≡ flag && is t kind ⌝ }
 {
     if flag { t.kind == kind } else { false }
+}
+
+// A ByteOrderMark or, with `ends`, a DocumentEnd.
+pub(crate) fn mark(kind: u32, ends: bool) -> bool
+    ensures { λ r. ⌜ r ≡ oneOf kind (marks ends) ⌝ }
+{
+    match kind {
+        Token::BYTE_ORDER_MARK => true,
+        Token::DOCUMENT_END => ends,
+        _ => false,
+    }
 }

@@ -2,11 +2,13 @@
 // step only decides; what is to change in the lent places is part of its answer.
 ghost use mathlib.Core.Path.{_≡_};
 ghost use Rattle.rules.specs.Rules.Words.{plain, empty-scalar, no-tag};
-ghost use Rattle.rules.specs.Rules.{into, pop-state};
-ghost use Rattle.parser.specs.Machine.{fresh};
-ghost use Rattle.parser.specs.Answers.{refusing, refusedBy, goes, next, moved, overOf};
+ghost use Rattle.rules.specs.Rules.{into, pop-state, state-machine};
+ghost use Rattle.parser.specs.Machine.{fresh, lent};
+ghost use Rattle.parser.specs.Answers.{refusing, refusedBy, goes, next, moved, overOf, decided};
 
 mod block;
+mod directives;
+mod document;
 mod flow;
 mod kinds;
 mod node;
@@ -145,6 +147,142 @@ impl Machine {
             names: 0,
             handles: 0,
             next: Machine::FIRST_ID,
+        }
+    }
+
+    // The step from the state that the machine is in.
+    pub fn step(self, tokens: &[u8], text: &[u8], names: &[u8], tags: &[u8], terms: Terms) -> Step
+        ensures { λ r. ⌜ r ≡ decided (lent (now (tokens .entry)) (now (text .entry)) (now (names .entry)) (now (tags .entry)) terms) self (λ g m. state-machine g m (m .state)) ⌝ }
+    {
+        let state = self.state;
+        match state {
+            State::StreamStart => self.stream_start(tokens, text, names, tags, terms),
+            State::ImplicitDocumentStart => self.document_start(
+                tokens,
+                text,
+                names,
+                tags,
+                terms,
+                true,
+            ),
+            State::DocumentStart => self.document_start(tokens, text, names, tags, terms, false),
+            State::DocumentContent => self.document_content(tokens, text, names, tags, terms),
+            State::DocumentEnd => self.document_end(tokens, text, names, tags, terms),
+            State::BlockNode => self.parse_node(
+                tokens,
+                text,
+                names,
+                tags,
+                terms,
+                self.at,
+                Over::Here,
+                true,
+                false,
+            ),
+            State::BlockSequenceFirstEntry => self.block_sequence_entry(
+                tokens,
+                text,
+                names,
+                tags,
+                terms,
+                true,
+            ),
+            State::BlockSequenceEntry => self.block_sequence_entry(
+                tokens,
+                text,
+                names,
+                tags,
+                terms,
+                false,
+            ),
+            State::IndentlessSequenceEntry => self.indentless_sequence_entry(
+                tokens,
+                text,
+                names,
+                tags,
+                terms,
+            ),
+            State::BlockMappingFirstKey => self.block_mapping_key(
+                tokens,
+                text,
+                names,
+                tags,
+                terms,
+                true,
+            ),
+            State::BlockMappingKey => self.block_mapping_key(
+                tokens,
+                text,
+                names,
+                tags,
+                terms,
+                false,
+            ),
+            State::BlockMappingValue => self.block_mapping_value(tokens, text, names, tags, terms),
+            State::FlowSequenceFirstEntry => self.flow_sequence_entry(
+                tokens,
+                text,
+                names,
+                tags,
+                terms,
+                true,
+            ),
+            State::FlowSequenceEntry => self.flow_sequence_entry(
+                tokens,
+                text,
+                names,
+                tags,
+                terms,
+                false,
+            ),
+            State::FlowSequenceEntryMappingKey => self.flow_sequence_entry_mapping_key(
+                tokens,
+                text,
+                names,
+                tags,
+                terms,
+            ),
+            State::FlowSequenceEntryMappingValue => self.flow_sequence_entry_mapping_value(
+                tokens,
+                text,
+                names,
+                tags,
+                terms,
+            ),
+            State::FlowSequenceEntryMappingEnd(mark) => self.flow_sequence_entry_mapping_end(
+                tokens,
+                text,
+                names,
+                tags,
+                terms,
+                mark,
+            ),
+            State::FlowMappingFirstKey => self.flow_mapping_key(
+                tokens,
+                text,
+                names,
+                tags,
+                terms,
+                true,
+            ),
+            State::FlowMappingKey => self.flow_mapping_key(tokens, text, names, tags, terms, false),
+            State::FlowMappingValue => self.flow_mapping_value(
+                tokens,
+                text,
+                names,
+                tags,
+                terms,
+                false,
+            ),
+            State::FlowMappingEmptyValue => self.flow_mapping_value(
+                tokens,
+                text,
+                names,
+                tags,
+                terms,
+                true,
+            ),
+            State::End => Step::Stuck,
         }
     }
 
