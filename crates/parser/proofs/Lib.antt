@@ -5,3 +5,4 @@ pub mod TagLaws
 pub mod DocumentLaws
 pub mod DirectiveLaws
 pub mod Turns
+pub mod Unique
