@@ -14,3 +14,4 @@ pub mod Rooms
 pub mod WalkSteps
 pub mod Walks
 pub mod Unique
+pub mod Granted

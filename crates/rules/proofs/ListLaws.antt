@@ -16,16 +16,16 @@ use Rattle.records.proofs.TokenLaws.{past-end}
 use Rattle.rules.specs.Rules.{Given, Decision, Refused, seen, look}
 use Rattle.rules.specs.Lists.{Listed, read-in, last-end, listed, in-bytes}
 
-no-token : Token
+unfoldable pub no-token : Token
 no-token = record { kind = 0; start = 0; end = 0; a = noRange; b = noRange; style = 0 }
 
-read-within : (place : ℕ) (ts : List Token) (at : ℕ) → at < length ts → read-in place ts at ≡ read.Token (getD ts at no-token)
+pub read-within : (place : ℕ) (ts : List Token) (at : ℕ) → at < length ts → read-in place ts at ≡ read.Token (getD ts at no-token)
 unfolding read-in
 read-within place [] at h = absurd (omega arith)
 read-within place (t ∷ ts) zero h = refl
 read-within place (t ∷ ts) (suc at) h = read-within place ts at (omega arith)
 
-read-past : (place : ℕ) (ts : List Token) (at : ℕ) → length ts ≤ at → read-in place ts at ≡ refused 14 place
+pub read-past : (place : ℕ) (ts : List Token) (at : ℕ) → length ts ≤ at → read-in place ts at ≡ refused 14 place
 unfolding read-in
 read-past place [] at h = refl
 read-past place (t ∷ ts) zero h = absurd (omega arith)

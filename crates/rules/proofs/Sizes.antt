@@ -14,7 +14,7 @@ use Rattle.rules.specs.Rules.{if_then_else_, Given, Names, Tags}
 use Rattle.rules.specs.Run.{Model, named, handled}
 use Rattle.rules.proofs.Weights.{put, told}
 
-entered-length : {A : Type 0} (p : A → Bool) (x : A) (xs : List A) → length (entered p x xs) ≤ suc (length xs)
+pub entered-length : {A : Type 0} (p : A → Bool) (x : A) (xs : List A) → length (entered p x xs) ≤ suc (length xs)
 unfolding entered
 entered-length p x [] = omega arith
 entered-length p x (y ∷ ys) = go (p y) (entered-length p x ys) where

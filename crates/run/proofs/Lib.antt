@@ -1,0 +1,5 @@
+pub mod ApplyLaws
+pub mod StepLaws
+pub mod TurnLaws
+pub mod RunLaws
+pub mod Unique
