@@ -1,0 +1,20 @@
+-- What the face leaves, with an answer buffer too short and with one that is not. Assumes nothing.
+use mathlib.Core.Path.{_≡_, ap}
+use mathlib.Core.List.{List}
+use Prim.Native.Nat.{ℕ, _≤_, _<_}
+use borrow.Author.Tests.{lt-ltb, le-ltb}
+use lib.ListN.{length}
+use Rattle.run.specs.Run.{Left, left, runs}
+use Rattle.run.specs.declared.Answer.{Answer}
+use Rattle.face.specs.Face.{faced, on, answered, returned, saphyr-run}
+
+module _ (tokens text : List ℕ) (keep forget : ℕ) (events states anchors handles answer : List ℕ) where
+  pub no-answer : length answer < 12 → faced 28 events states anchors handles answer ≡ saphyr-run tokens text keep forget events states anchors handles answer
+  unfolding saphyr-run
+  no-answer h = rw (lt-ltb (length answer) 12 h)
+
+  pub run-answer : 12 ≤ length answer → (a : Answer) (e s n h after : List ℕ)
+      → left a e s n h ≡ runs tokens text (record { keep = on keep; forget = on forget }) events states anchors handles → after ≡ answered answer a
+      → faced (a .number) e s n h after ≡ saphyr-run tokens text keep forget events states anchors handles answer
+  unfolding saphyr-run returned left
+  run-answer l a e s n h after q w = rw (le-ltb (length answer) 12 l, w) (ap (λ (x : Left). returned x answer) q)
