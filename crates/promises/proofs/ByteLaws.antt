@@ -2,23 +2,23 @@
 use mathlib.Core.Path.{_≡_, refl, sym, ap, _∙_, fun-ext}
 use mathlib.Core.Bool.{Bool, true, false, cond, _&&_, _||_}
 use mathlib.Core.List.{List, [], _∷_, _++_}
-use Prim.Native.Nat.{ℕ, zero, suc, _+_, _*_, _/_, _%_, _^_, _-_, _≤_, _<_}
+use Prim.Native.Nat.{ℕ, zero, suc, _+_, _*_, _%_, _^_, _-_, _≤_, _<_}
 use native.Mathlib.Omega.{arith}
-use borrow.Author.Tests.{ltb-true, ltb-false, lt-ltb, le-ltb, le-leb, lt-leb, eqb-true, eq-eqb, ne-eqb}
-use lib.Dec.{ltb, eqb, leb}
+use borrow.Author.Tests.{ltb-true, ltb-false, lt-ltb, le-ltb, lt-leb, eqb-true, eq-eqb, ne-eqb}
+use lib.Dec.{ltb, eqb}
 use lib.ListN.{length, getD, length-append, List·getD-append}
-use Rattle.places.specs.Words.{word, le, encode}
+use Rattle.places.specs.Words.{word, encode}
 use Rattle.places.specs.Places.{places, hasPlace, fieldOf}
 use Rattle.places.proofs.WordLaws.{length-encode, word-encode}
 use Rattle.records.specs.Names.{noRange, rangeOf}
-use Rattle.records.specs.Tokens.{usesA, usesB, usesStyle, rangeIf, styleIf, tokenAt, good, lastEnd, refused, readAt, found}
+use Rattle.records.specs.Tokens.{usesA, usesB, usesStyle, rangeIf, styleIf, tokenAt, good, lastEnd, readAt}
 use Rattle.records.specs.declared.names.Range.{Range}
 use Rattle.records.specs.declared.tokens.Token.{Token}
 use Rattle.records.specs.declared.tokens.Read.the-variants as read
 use Rattle.records.specs.Checks.{goodRun, checkRecords, firstChecks}
 use Rattle.records.specs.declared.checks.Checked.the-variants as checked
 use Rattle.records.proofs.TokenLaws.{past-end}
-use Rattle.rules.specs.Lists.{Listed, read-in, last-end, listed, in-bytes}
+use Rattle.rules.specs.Lists.{read-in, last-end, listed, in-bytes}
 use Rattle.rules.proofs.ListLaws.{no-token, read-within, read-past}
 use Rattle.promises.specs.Bytes.{numbers, as-bytes, small, empty, tidy, sound, all-sound}
 

@@ -185,11 +185,13 @@ module _ (text b : List ℕ) (n : ℕ) (x : Handle) (small : hl.Small x) (after 
 
   pub entered-full : Enter text b n (x .name) (h.numbersOf x) entered.Full after → Entering text b n x n after
   unfolding h.numbersOf
-  entered-full q = record { table = λ room.
-    let f = find text b 16 n (x .name) in
-    let none = no-place b 16 (placeFor f n) (full (hasPlace b 16 (placeFor f n)) (usedAfter f n) (q .used)) in
-    let here = seat-below (h.named text (x .name)) x 0 n (h.handlesOf b n) (omega (arith, length-handles)) in
-    absurd (omega (arith, rw (hl.looked text b n (x .name)) at none, here)) }
+  entered-full q = record {
+    table = λ room.
+        let f = find text b 16 n (x .name) in
+        let none = no-place b 16 (placeFor f n) (full (hasPlace b 16 (placeFor f n)) (usedAfter f n) (q .used)) in
+        let here = seat-below (h.named text (x .name)) x 0 n (h.handlesOf b n) (omega (arith, length-handles)) in
+        absurd (omega (arith, rw (hl.looked text b n (x .name)) at none, here));
+  }
 
 -- the handle of one token
 module _ (tokens text b : List ℕ) (n at : ℕ) where
@@ -199,19 +201,25 @@ module _ (tokens text b : List ℕ) (n at : ℕ) where
 
   pub declared-refused : (e : Refusal) → readAt tokens (length text) at ≡ read.Refused e → Declaring tokens text b n at 1 n b
   unfolding declare-read in-bytes
-  declared-refused e q = record { table = λ keep forget room.
-    rw (declared-one (in-bytes tokens (places tokens 32) text keep forget) (h.handlesOf b n), q) }
+  declared-refused e q = record {
+    table = λ keep forget room.
+        rw (declared-one (in-bytes tokens (places tokens 32) text keep forget) (h.handlesOf b n), q);
+  }
 
   pub declared-other : (x : Token) → readAt tokens (length text) at ≡ read.Token x → (x .kind ≡ 4 → ⊥) → Declaring tokens text b n at 1 n b
   unfolding declare-read in-bytes is if_then_else_
-  declared-other x q d = record { table = λ keep forget room.
-    rw (declared-one (in-bytes tokens (places tokens 32) text keep forget) (h.handlesOf b n), q, ne-eqb (x .kind) 4 d) }
+  declared-other x q d = record {
+    table = λ keep forget room.
+        rw (declared-one (in-bytes tokens (places tokens 32) text keep forget) (h.handlesOf b n), q, ne-eqb (x .kind) 4 d);
+  }
 
   pub declared-tag : (x : Token) (r : ℕ) (after : List ℕ) → readAt tokens (length text) at ≡ read.Token x → x .kind ≡ 4
       → Entering text b n (record { name = x .a; prefix = x .b }) r after → Declaring tokens text b n at 1 r after
   unfolding declare-read in-bytes is if_then_else_
-  declared-tag x r after q d k = record { table = λ keep forget.
-    rw (declared-one (in-bytes tokens (places tokens 32) text keep forget) (h.handlesOf b n), q, eq-eqb (x .kind) 4 d) (k .table) }
+  declared-tag x r after q d k = record {
+    table = λ keep forget.
+        rw (declared-one (in-bytes tokens (places tokens 32) text keep forget) (h.handlesOf b n), q, eq-eqb (x .kind) 4 d) (k .table);
+  }
 
 -- one token more
 module _ (tokens text b : List ℕ) (n from : ℕ) where

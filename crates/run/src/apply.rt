@@ -188,7 +188,14 @@ fn advanced(m: Machine, opened: Opened, names: usize, handles: usize, next: u32)
 }
 
 // Applies a step that was taken.
-pub fn apply(tokens: &[u8], text: &[u8], states: &mut [u8], anchors: &mut [u8], handles: &mut [u8], s: Stepped) -> Applied
+pub fn apply(
+    tokens: &[u8],
+    text: &[u8],
+    states: &mut [u8],
+    anchors: &mut [u8],
+    handles: &mut [u8],
+    s: Stepped,
+) -> Applied
     requires { ⌜ suc (s .machine .next) < 4294967296 ⌝ }
     ensures { λ r. ⌜ Applying (now (tokens .entry)) (now (text .entry)) (now (states .entry)) (now (anchors .entry)) (now (handles .entry)) s r (now (states .exit)) (now (anchors .exit)) (now (handles .exit)) ⌝ }
 {

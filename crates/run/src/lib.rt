@@ -164,7 +164,17 @@ fn steps(
     let mut m = Machine::fresh();
     let mut count: usize = 0;
     loop {
-        let turned = turn(tokens, text, terms, m, count, events, states, anchors, handles);
+        let turned = turn(
+            tokens,
+            text,
+            terms,
+            m,
+            count,
+            events,
+            states,
+            anchors,
+            handles,
+        );
         match turned {
             Went::On(next) => {
                 m = next;
