@@ -26,7 +26,7 @@ eight : (t : Token) (k : ℕ) → k < 8 → k < length (numbers t)
 unfolding numbers
 eight t k h = h
 
-false-true : false ≡ true → ⊥
+pub false-true : false ≡ true → ⊥
 false-true e = let z : _≡_ {A = ℕ} 0 1 = ap (λ (b : Bool). cond b 1 0) e in absurd (omega arith)
 
 -- a word before the seam, and one behind it
@@ -57,7 +57,7 @@ length-bytes (t ∷ ts) = length-append (encode (numbers t)) (as-bytes ts) ∙ o
 pub places-bytes : (ts : List Token) → places (as-bytes ts) 32 ≡ length ts
 places-bytes ts = rw (length-bytes ts) (omega arith)
 
-and-both : (a b : Bool) → a && b ≡ true → (a ≡ true) × (b ≡ true)
+pub and-both : (a b : Bool) → a && b ≡ true → (a ≡ true) × (b ≡ true)
 and-both true b e = (refl, e)
 and-both false b e = absurd (false-true e)
 

@@ -1,1 +1,4 @@
 pub mod ByteLaws
+pub mod WrittenLaws
+pub mod Demand1
+pub mod Demand2

@@ -1,0 +1,174 @@
+-- Demand 2: every event right. The answer and each event are those of the rules of the steps, and the starred lists of
+-- document 01, as bytes, are answered as it says. Assumes nothing.
+use mathlib.Core.Path.{_≡_, refl, sym, ap, _∙_}
+use mathlib.Core.Bool.{Bool, true, false, _&&_}
+use mathlib.Core.List.{List, [], _∷_}
+use Prim.Native.Nat.{ℕ, suc, _+_, _*_, _≤_, _<_}
+use native.Mathlib.Omega.{arith}
+use borrow.Author.Tests.{eqb-true, leb-true, ltb-true}
+use lib.Dec.{eqb, leb, ltb}
+use lib.ListN.{length, getD}
+use Rattle.places.specs.Places.{places}
+use Rattle.records.specs.Names.{noRange}
+use Rattle.records.specs.Tokens.{good, within}
+use Rattle.records.specs.declared.checks.Checked.the-variants as checked
+use Rattle.records.specs.declared.names.Range.{Range}
+use Rattle.records.specs.declared.events.Event.{Event}
+use Rattle.records.specs.declared.events.Tag.{Tag}
+use Rattle.records.specs.declared.tokens.Token.{Token}
+use Rattle.rules.specs.Rules.Words.{Given, Place, plain}
+use Rattle.rules.specs.Run.{Rooms, Outcome, fresh, run}
+use Rattle.rules.specs.Lists.{listed}
+use Rattle.rules.specs.Needs.{ample, enough, Fits}
+use Rattle.rules.specs.Starred.{Pick, Case, bare, named, tagged, ev, scalar, alias-over, same-range, same-tag, same-event, picked, as-said, check, check-all, starred}
+use Rattle.rules.proofs.ListLaws.{plain-list}
+use Rattle.rules.proofs.Rooms.{fitting, needs-bounded}
+use Rattle.rules.proofs.Starred.{starred-right}
+use Rattle.run.specs.Run.{Left, roomsOf}
+use Rattle.promises.specs.Bytes.{as-bytes, numbers, small, empty, tidy, sound, all-sound}
+use Rattle.promises.specs.Demands.{Call, after, Holds, given, rooms, by-rules, Roomy, Lends, Shown, Said, Each}
+use Rattle.promises.proofs.ByteLaws.{and-both, checks-pass, given-back, places-bytes}
+use Rattle.promises.proofs.WrittenLaws.{written-each}
+use Rattle.promises.proofs.Demand1.{Passes, ran, run-fits}
+
+-- "Events, spans, anchor ids, resolved tags and the first refusal are equal to the step rules": number, place, and each event
+-- in its place
+pub record Right (c : Call) (o : Outcome) : Type 0 where
+  pub number : after c .answer .number ≡ o .number
+  pub place : after c .answer .place ≡ o .place
+  pub count : after c .answer .count ≡ length (o .events)
+  pub each : (k : ℕ) → k < length (o .events) → Holds (after c .events) k (getD (o .events) k (plain 0 0 0 0))
+
+pub every-event-right : (c : Call) → Passes c → Right c (by-rules c)
+unfolding by-rules
+every-event-right c p =
+    let r = ran c p in
+    let n = run-fits (rooms c) (given c) (places (c .events) 48) fresh in
+    record {
+      number = r .number;
+      place = r .place;
+      count = r .count;
+      each = λ k l. let q : 0 + k ≡ k = omega arith in rw (r .events) (rw q at (written-each (plain 0 0 0 0) (by-rules c .events) (c .events) 0 k (omega arith) l));
+    }
+
+-- the tokens of a call, written out as its bytes
+pub record Written (c : Call) (ts : List Token) : Type 0 where
+  pub bytes : c .tokens ≡ as-bytes ts
+  pub sound : all-sound (length (c .text)) ts ≡ true
+  pub few : length ts ≤ 65536
+  pub short : length (c .text) ≤ 16777216
+
+unfoldable pub on-list : Call → List Token → Given
+on-list c ts = listed ts (c .text) (c .settings .keep) (c .settings .forget)
+
+pub written-passes : (c : Call) (ts : List Token) → Written c ts → Passes c
+written-passes c ts w = rw (w .bytes, places-bytes ts) (checks-pass (length (c .text)) ts (w .sound) (w .few) (w .short))
+
+pub written-given : (c : Call) (ts : List Token) → Written c ts → given c ≡ on-list c ts
+unfolding given on-list
+written-given c ts w = rw (w .bytes, places-bytes ts) (given-back ts (c .text) (c .settings .keep) (c .settings .forget) (w .sound))
+
+-- with room enough, the run is the one that lacks nothing
+pub roomy-run : (c : Call) (ts : List Token) → Written c ts → Roomy c (length ts) → by-rules c ≡ ample (on-list c ts)
+unfolding by-rules rooms roomsOf on-list listed enough
+roomy-run c ts w m =
+    let l = plain-list ts (c .text) (c .settings .keep) (c .settings .forget) in
+    let b = needs-bounded l in
+    rw (written-given c ts w) (fitting l (rooms c) (places (c .events) 48) (record { events = omega arith; opens = omega arith; anchors = omega arith; handles = omega arith }))
+
+pub list-right : (c : Call) (ts : List Token) → Written c ts → Roomy c (length ts) → Right c (ample (on-list c ts))
+list-right c ts w m = rw (roomy-run c ts w m) at (every-event-right c (written-passes c ts w))
+
+range-is : (r s : Range) → same-range r s ≡ true → r ≡ s
+unfolding same-range
+range-is r s h =
+    let x = and-both (eqb (r .from) (s .from)) _ h in
+    λ i. record { from = eqb-true (r .from) (s .from) (x .0) i; to = eqb-true (r .to) (s .to) (x .1) i }
+
+tag-is : (t u : Tag) → same-tag t u ≡ true → t ≡ u
+unfolding same-tag
+tag-is t u h =
+    let x = and-both (eqb (t .source) (u .source)) _ h in
+    let y = and-both (same-range (t .prefix) (u .prefix)) _ (x .1) in
+    λ i. record { source = eqb-true (t .source) (u .source) (x .0) i; prefix = range-is (t .prefix) (u .prefix) (y .0) i; suffix = range-is (t .suffix) (u .suffix) (y .1) i }
+
+event-is : (d e : Event) → same-event d e ≡ true → d ≡ e
+unfolding same-event
+event-is d e h =
+    let a = and-both (eqb (d .kind) (e .kind)) _ h in
+    let b = and-both (eqb (d .start) (e .start)) _ (a .1) in
+    let c = and-both (eqb (d .end) (e .end)) _ (b .1) in
+    let f = and-both (eqb (d .number) (e .number)) _ (c .1) in
+    let g = and-both (eqb (d .style) (e .style)) _ (f .1) in
+    let k = and-both (same-range (d .value) (e .value)) _ (g .1) in
+    λ i. record {
+      kind = eqb-true (d .kind) (e .kind) (a .0) i;
+      start = eqb-true (d .start) (e .start) (b .0) i;
+      end = eqb-true (d .end) (e .end) (c .0) i;
+      number = eqb-true (d .number) (e .number) (f .0) i;
+      style = eqb-true (d .style) (e .style) (g .0) i;
+      value = range-is (d .value) (e .value) (k .0) i;
+      tag = tag-is (d .tag) (e .tag) (k .1) i;
+    }
+
+-- each event that is shown is one of the run's
+unfoldable below : ℕ → List Pick → Bool
+below n [] = true
+below n (p ∷ ps) = ltb (p .index) n && below n ps
+
+shown : (c : Call) (o : Outcome) (ps : List Pick) → Right c o → below (length (o .events)) ps ≡ true → picked (o .events) ps ≡ true → Shown (after c .events) ps
+unfolding below picked
+shown c o [] r h k = tt
+shown c o (p ∷ ps) r h k =
+    let x = and-both (ltb (p .index) (length (o .events))) _ h in
+    let y = and-both (same-event (getD (o .events) (p .index) (plain 0 0 0 0)) (p .event)) _ k in
+    let e = event-is _ _ (y .0) in
+    (rw e at (r .each (p .index) (ltb-true (p .index) (length (o .events)) (x .0))), shown c o ps r (x .1) (y .1))
+
+-- a list that records can hold
+unfoldable fine : Case → Bool
+fine k = all-sound (length (k .text)) (k .tokens) && (leb (length (k .tokens)) 65536 && (leb (length (k .text)) 16777216 && below (k .count) (k .picks)))
+
+lent-list : (k : Case) (c : Call) → Lends c k → on-list c (k .tokens) ≡ listed (k .tokens) (k .text) false (k .forget)
+unfolding on-list
+lent-list k c l = rw (l .text, l .keep, l .forget)
+
+said : (k : Case) → fine k ≡ true → check k ≡ true → (c : Call) → Lends c k → Said c k
+unfolding fine check as-said
+said k f h c l =
+    let a = and-both (all-sound (length (k .text)) (k .tokens)) _ f in
+    let b = and-both (leb (length (k .tokens)) 65536) _ (a .1) in
+    let d = and-both (leb (length (k .text)) 16777216) _ (b .1) in
+    let w : Written c (k .tokens) = record { bytes = l .tokens; sound = rw (l .text) (a .0); few = leb-true (length (k .tokens)) 65536 (b .0); short = rw (l .text) (leb-true (length (k .text)) 16777216 (d .0)) } in
+    let o = ample (listed (k .tokens) (k .text) false (k .forget)) in
+    let r : Right c o = rw (lent-list k c l) at (list-right c (k .tokens) w (l .room)) in
+    let n = and-both (eqb (o .number) (k .number)) _ h in
+    let m = and-both (eqb (length (o .events)) (k .count)) _ (n .1) in
+    let p = and-both (eqb (o .place) (k .place)) _ (m .1) in
+    let e : length (o .events) ≡ k .count = eqb-true (length (o .events)) (k .count) (m .0) in
+    record {
+      number = r .number ∙ eqb-true (o .number) (k .number) (n .0);
+      count = r .count ∙ e;
+      place = r .place ∙ eqb-true (o .place) (k .place) (p .0);
+      events = shown c o (k .picks) r (rw e (d .1)) (p .1);
+    }
+
+unfoldable all-fine : List Case → Bool
+all-fine [] = true
+all-fine (k ∷ ks) = fine k && all-fine ks
+
+each-said : (ks : List Case) → all-fine ks ≡ true → check-all ks ≡ true → Each (λ k. (c : Call) → Lends c k → Said c k) ks
+unfolding all-fine check-all
+each-said [] f h = tt
+each-said (k ∷ ks) f h =
+    let x = and-both (fine k) (all-fine ks) f in
+    let y = and-both (check k) (check-all ks) h in
+    (said k (x .0) (y .0), each-said ks (x .1) (y .1))
+
+starred-fine : all-fine starred ≡ true
+unfolding all-fine fine below all-sound sound good within numbers small tidy empty bare named tagged ev scalar alias-over starred noRange
+starred-fine = refl
+
+-- the starred lists of document 01 as bytes, with room enough
+pub starred-on-bytes : Each (λ k. (c : Call) → Lends c k → Said c k) starred
+starred-on-bytes = each-said starred starred-fine starred-right
