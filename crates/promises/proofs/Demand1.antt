@@ -78,7 +78,7 @@ rules-number {n = n} (plain h) = rw (le-leb n 14 h)
 rules-number (no-event e h) = rw e
 rules-number {n = n} (no-place p e h) = rw (lt-leb n 14 (omega (arith, short-range p)), le-leb 20 n (omega (arith, short-range p)), le-leb n 27 (omega (arith, short-range p)))
 
-first-range : (n : ℕ) → of-first-checks n ≡ true → ((20 ≤ n) × (n ≤ 21)) ⊎ ((26 ≤ n) × (n ≤ 27))
+pub first-range : (n : ℕ) → of-first-checks n ≡ true → ((20 ≤ n) × (n ≤ 21)) ⊎ ((26 ≤ n) × (n ≤ 27))
 unfolding of-first-checks
 first-range n h = go (eqb n 20) (eqb n 21) (eqb n 26) (eqb n 27) refl refl refl refl h where
   go : (a b c d : Bool) → eqb n 20 ≡ a → eqb n 21 ≡ b → eqb n 26 ≡ c → eqb n 27 ≡ d → a || (b || (c || d)) ≡ true

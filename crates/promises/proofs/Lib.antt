@@ -2,3 +2,4 @@ pub mod ByteLaws
 pub mod WrittenLaws
 pub mod Demand1
 pub mod Demand2
+pub mod Demand3

@@ -89,3 +89,17 @@ pub record Said (c : Call) (k : Case) : Type 0 where
 abbrev pub Each : {A : Type 0} → (A → Type 0) → List A → Type 0
 Each P [] = Unit
 Each P (x ∷ xs) = P x × Each P xs
+
+-- the tokens that a run took
+unfoldable pub taken : Call → ℕ
+taken c = by-rules c .last .at
+
+-- the same call with no less room of any kind
+pub record Grown (c d : Call) : Type 0 where
+  pub tokens : c .tokens ≡ d .tokens
+  pub text : c .text ≡ d .text
+  pub settings : c .settings ≡ d .settings
+  pub events : places (c .events) 48 ≤ places (d .events) 48
+  pub states : places (c .states) 8 ≤ places (d .states) 8
+  pub anchors : places (c .anchors) 12 ≤ places (d .anchors) 12
+  pub handles : places (c .handles) 16 ≤ places (d .handles) 16
