@@ -1,27 +1,24 @@
 -- Demand 1: any input, one answer. Each sentence of it, of any call. Assumes nothing.
-use mathlib.Core.Path.{_≡_, refl, sym, ap, _∙_}
-use mathlib.Core.Bool.{Bool, true, false, not, cond, _&&_, _||_}
-use mathlib.Core.List.{List, [], _∷_}
+use mathlib.Core.Path.{_≡_, refl}
+use mathlib.Core.Bool.{Bool, true, false, not, cond, _||_}
+use mathlib.Core.List.{List}
 use mathlib.Core.Logic.{_⊎_, inl, inr}
-use Prim.Native.Nat.{ℕ, zero, suc, _+_, _*_, _%_, _^_, _≤_, _<_}
+use Prim.Native.Nat.{ℕ, zero, suc, _*_, _%_, _^_, _≤_}
 use native.Mathlib.Omega.{arith}
 use borrow.Author.Tests.{le-leb, lt-leb, eqb-true}
-use lib.Dec.{leb, ltb, eqb}
+use lib.Dec.{ltb, eqb}
 use lib.ListN.{length, getD}
 use Rattle.places.specs.Places.{places}
-use Rattle.places.proofs.PlaceLaws.{room}
 use Rattle.records.specs.Checks.{goodRun, refusing, checkRecords, firstChecks}
 use Rattle.records.specs.declared.tokens.Refusal.{Refusal}
 use Rattle.records.specs.declared.checks.Checked.{Checked}
 use Rattle.records.specs.declared.checks.Checked.the-variants as checked
-use Rattle.records.specs.declared.events.Event.{Event}
 use Rattle.records.proofs.CheckLaws.{passed}
 use Rattle.rules.specs.Rules.Words.{Given, if_then_else_}
 use Rattle.rules.specs.Run.{Rooms, Model, Step, Go, Halt, Stuck, step, stop, store, ended, onward, fresh, run}
-use Rattle.rules.specs.Lists.{in-bytes}
 use Rattle.rules.proofs.ListLaws.{checked-list}
 use Rattle.rules.proofs.NeverStuck.{Answer, plain, no-event, no-place, answered, short-range}
-use Rattle.run.specs.Run.{runs, told, checkedRun, roomsOf, written, cleared}
+use Rattle.run.specs.Run.{runs, told, checkedRun, written}
 use Rattle.promises.specs.Demands.{Call, after, known, of-first-checks, Zero, given, rooms, by-rules}
 use Rattle.promises.proofs.ByteLaws.{false-true}
 use Rattle.promises.proofs.WrittenLaws.{written-length, written-other, cleared-zero}

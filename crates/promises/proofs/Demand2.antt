@@ -1,9 +1,9 @@
 -- Demand 2: every event right. The answer and each event are those of the rules of the steps, and the starred lists of
 -- document 01, as bytes, are answered as it says. Assumes nothing.
-use mathlib.Core.Path.{_≡_, refl, sym, ap, _∙_}
+use mathlib.Core.Path.{_≡_, refl, _∙_}
 use mathlib.Core.Bool.{Bool, true, false, _&&_}
 use mathlib.Core.List.{List, [], _∷_}
-use Prim.Native.Nat.{ℕ, suc, _+_, _*_, _≤_, _<_}
+use Prim.Native.Nat.{ℕ, _+_, _≤_, _<_}
 use native.Mathlib.Omega.{arith}
 use borrow.Author.Tests.{eqb-true, leb-true, ltb-true}
 use lib.Dec.{eqb, leb, ltb}
@@ -16,15 +16,15 @@ use Rattle.records.specs.declared.names.Range.{Range}
 use Rattle.records.specs.declared.events.Event.{Event}
 use Rattle.records.specs.declared.events.Tag.{Tag}
 use Rattle.records.specs.declared.tokens.Token.{Token}
-use Rattle.rules.specs.Rules.Words.{Given, Place, plain}
-use Rattle.rules.specs.Run.{Rooms, Outcome, fresh, run}
+use Rattle.rules.specs.Rules.Words.{Given, plain}
+use Rattle.rules.specs.Run.{Outcome, fresh}
 use Rattle.rules.specs.Lists.{listed}
-use Rattle.rules.specs.Needs.{ample, enough, Fits}
+use Rattle.rules.specs.Needs.{ample, enough}
 use Rattle.rules.specs.Starred.{Pick, Case, bare, named, tagged, ev, scalar, alias-over, same-range, same-tag, same-event, picked, as-said, check, check-all, starred}
 use Rattle.rules.proofs.ListLaws.{plain-list}
 use Rattle.rules.proofs.Rooms.{fitting, needs-bounded}
 use Rattle.rules.proofs.Starred.{starred-right}
-use Rattle.run.specs.Run.{Left, roomsOf}
+use Rattle.run.specs.Run.{roomsOf}
 use Rattle.promises.specs.Bytes.{as-bytes, numbers, small, empty, tidy, sound, all-sound}
 use Rattle.promises.specs.Demands.{Call, after, Holds, given, rooms, by-rules, Roomy, Lends, Shown, Said, Each}
 use Rattle.promises.proofs.ByteLaws.{and-both, checks-pass, given-back, places-bytes}

@@ -1,7 +1,6 @@
 -- Demand 3: room known in advance, of the run on bytes. Assumes nothing.
-use mathlib.Core.Path.{_≡_, refl, sym, ap, _∙_}
-use mathlib.Core.Bool.{Bool, true, _&&_}
-use mathlib.Core.List.{List, [], _∷_}
+use mathlib.Core.Path.{_≡_, sym, ap, _∙_}
+use mathlib.Core.Bool.{true}
 use mathlib.Core.Logic.{_↔_, _⊎_, inl, inr}
 use Prim.Native.Nat.{ℕ, zero, suc, _+_, _-_, _*_, _≤_, _<_}
 use native.Mathlib.Omega.{arith}
@@ -10,19 +9,19 @@ use lib.ListN.{length}
 use Rattle.places.specs.Places.{places}
 use Rattle.records.specs.Names.{noRange}
 use Rattle.records.specs.Tokens.{good, within}
-use Rattle.rules.specs.Rules.Words.{Given, Place, OpenPlace, AnchorPlace, HandlePlace, first, Hit, Miss, Got}
-use Rattle.rules.specs.Run.{Rooms, room, Outcome, fresh, run}
+use Rattle.rules.specs.Rules.Words.{Place, OpenPlace, AnchorPlace, HandlePlace, first}
+use Rattle.rules.specs.Run.{room, fresh, run}
 use Rattle.rules.specs.Lists.{Listed, in-bytes}
-use Rattle.rules.specs.Documents.{starts, documents, Ends}
+use Rattle.rules.specs.Documents.{starts, documents}
 use Rattle.rules.specs.Starred.{bare}
-use Rattle.rules.specs.Needs.{Need, lacks, lacked, all-needs, peaks, Fits, ample, Begins, Cut, Short, Wider}
+use Rattle.rules.specs.Needs.{lacks, all-needs, peaks, Fits, ample, Begins, Cut, Short, Wider}
 use Rattle.rules.proofs.ListLaws.{checked-list}
 use Rattle.rules.proofs.Bounds.{places-suffice, accepted-3A-4}
 use Rattle.rules.proofs.Witness.{witness, documents-length}
 use Rattle.rules.proofs.Rooms.{by-order, beginning, fitting, exactly, more-room}
 use Rattle.run.specs.Run.{roomsOf}
 use Rattle.promises.specs.Bytes.{as-bytes, numbers, small, empty, tidy, sound, all-sound}
-use Rattle.promises.specs.Demands.{Call, after, given, rooms, by-rules, Roomy, of-first-checks, taken, Grown}
+use Rattle.promises.specs.Demands.{Call, after, given, rooms, by-rules, Roomy, taken, Grown}
 use Rattle.promises.proofs.Demand1.{Passes, Judged, refused, passed-on, judged, first-range}
 use Rattle.promises.proofs.Demand2.{Right, every-event-right, Written, on-list, written-passes, written-given}
 

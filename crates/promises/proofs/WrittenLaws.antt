@@ -1,18 +1,17 @@
 -- Events written one after another: where each stands, and what is left as it was. Assumes nothing.
-use mathlib.Core.Path.{_≡_, refl, sym, _∙_}
+use mathlib.Core.Path.{_≡_, refl, _∙_}
 use mathlib.Core.Bool.{Bool, true, false, cond}
 use mathlib.Core.List.{List, [], _∷_, append-nil}
 use mathlib.Core.Logic.{_⊎_, inl, inr}
 use Prim.Native.Nat.{ℕ, zero, suc, _+_, _*_, _≤_, _<_}
 use native.Mathlib.Omega.{arith}
 use borrow.Author.Tests.{lt-ltb}
-use lib.Dec.{ltb}
-use lib.ListN.{length, getD, replicate, drop, length-append, length-replicate, length-drop, drop-of-length-le}
+use lib.ListN.{length, getD, replicate, drop, length-replicate, drop-of-length-le}
 use lib.Seq.{sets}
 use Rattle.places.specs.Words.{encode}
 use Rattle.places.specs.Places.{places, hasPlace, stored, zeroed}
 use Rattle.places.proofs.WordLaws.{length-encode, getD-sets, getD-sets-other}
-use Rattle.places.proofs.PlaceLaws.{room, length-stored, stored-yes}
+use Rattle.places.proofs.PlaceLaws.{room, length-stored}
 use Rattle.records.specs.Events.{numbersOf}
 use Rattle.records.specs.declared.events.Event.{Event}
 use Rattle.run.specs.Run.{written, cleared}
