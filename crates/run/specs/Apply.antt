@@ -1,4 +1,5 @@
--- What applying a step leaves in the lent bytes, read as the rules' lists. Each says it where there are places enough.
+-- Contracts of the functions that apply a step: what it leaves in the lent bytes, read as the rules' lists, where there are places
+-- enough. Who reads `Run` needs none of them.
 use mathlib.Core.Path.{_≡_}
 use Prim.Native.Nat.{ℕ, suc, _-_, _≤_}
 use mathlib.Core.Bool.{Bool}

@@ -1,4 +1,4 @@
--- One turn of a run: what it finds, and what it leaves.
+-- Contracts of one turn of a run: what it finds, and what it leaves. Who reads `Run` needs none of them.
 use mathlib.Core.Path.{_≡_}
 use Prim.Native.Nat.{ℕ, suc, _-_, _/_, _<_}
 use mathlib.Core.Bool.{Bool, true, false, cond}

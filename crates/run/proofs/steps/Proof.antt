@@ -28,8 +28,9 @@ turn-requires c κs = c .before .before .before .before .loop .inv .0 .here
 
 add-count : tie.Need-add-count Inv-loop μ-loop
 add-count c =
-    let a = c .before .before .before .before .before .before .before .before .before .before .before .before .before .before .before .before .before .before .before .before .before .before .before .before .args in
-    let l = c .before .before .before .before .before .before .before .before .before .before .before .before .before .before .before .before .loop in
+    let b = c .before .before .before .before .before .before .before .before .before .before .before .before .before .before .before .before in
+    let a = b .before .before .before .before .before .before .before .before .args in
+    let l = b .loop in
     omega (arith, few (a .tokens .now) (a .text .now) (a .terms) (l .count) (l .states) (l .anchors) (l .handles) (l .m) (l .inv .0 .here))
 
 loop-less : tie.Need-loop-less Inv-loop μ-loop
@@ -43,53 +44,76 @@ loop-less c =
 loop-again : tie.Need-loop-again Inv-loop μ-loop
 unfolding Turned
 loop-again c =
-    let a = c .before .before .before .before .before .before .before .before .before .before .before .before .before .before .before .before .before .before .before .before .before .before .before .before .args in
-    let l = c .before .before .before .before .before .before .before .before .before .before .before .before .before .before .before .before .loop in
+    let b = c .before .before .before .before .before .before .before .before .before .before .before .before .before .before .before .before in
+    let a = b .before .before .before .before .before .before .before .before .args in
+    let l = b .loop in
     let t = c .before .before .before .before .before .before .before .before .before .before .before .turn in
-    let next = c .before .turned in
-    (going-on (a .tokens .now) (a .text .now) (a .terms) (a .events .now) (l .events) (l .states) (l .anchors) (l .handles) (l .m) (l .count) (l .inv .0) (t .last .1 .1 .1 .1 .1 .0) (t .last .1 .1 .1 .1 .1 .1 .0) (t .last .1 .1 .1 .1 .1 .1 .1 .0) (t .last .1 .1 .1 .1 .1 .1 .1 .1 .0) (next .given .0 .0) (t .kept .1 .1 .1 .1 .1 .0) (rw (next .given .1) at (t .ensures)), t .kept .1 .1 .1 .1 .1 .0 ∙ l .inv .1, t .kept .1 .1 .1 .1 .1 .1 .0 ∙ l .inv .2, t .kept .1 .1 .1 .1 .1 .1 .1 .0 ∙ l .inv .3, t .kept .1 .1 .1 .1 .1 .1 .1 .1 .0 ∙ l .inv .4)
+    let next = c .before .turned in (
+      going-on (a .tokens .now) (a .text .now) (a .terms) (a .events .now) (l .events) (l .states) (l .anchors) (l .handles) (l .m) (l .count) (l .inv .0)
+          (t .last .1 .1 .1 .1 .1 .0) (t .last .1 .1 .1 .1 .1 .1 .0) (t .last .1 .1 .1 .1 .1 .1 .1 .0) (t .last .1 .1 .1 .1 .1 .1 .1 .1 .0)
+          (next .given .0 .0) (t .kept .1 .1 .1 .1 .1 .0) (rw (next .given .1) at (t .ensures)),
+      t .kept .1 .1 .1 .1 .1 .0 ∙ l .inv .1,
+      t .kept .1 .1 .1 .1 .1 .1 .0 ∙ l .inv .2,
+      t .kept .1 .1 .1 .1 .1 .1 .1 .0 ∙ l .inv .3,
+      t .kept .1 .1 .1 .1 .1 .1 .1 .1 .0 ∙ l .inv .4,
+    )
 
 add-answered : tie.Need-add-answered Inv-loop μ-loop
 add-answered c =
-    let a = c .before .before .before .before .before .before .before .before .before .before .before .before .before .before .before .before .before .before .before .before .before .before .before .args in
-    let l = c .before .before .before .before .before .before .before .before .before .before .before .before .before .before .before .loop in
+    let b = c .before .before .before .before .before .before .before .before .before .before .before .before .before .before .before in
+    let a = b .before .before .before .before .before .before .before .before .args in
+    let l = b .loop in
     omega (arith, few (a .tokens .now) (a .text .now) (a .terms) (l .count) (l .states) (l .anchors) (l .handles) (l .m) (l .inv .0 .here))
 
 answered-requires : tie.Need-answered-requires Inv-loop μ-loop
 answered-requires c κs =
-    let a = c .before .before .before .before .before .before .before .before .before .before .before .before .before .before .before .before .before .before .before .before .before .before .before .args in
-    let l = c .before .before .before .before .before .before .before .before .before .before .before .before .before .before .before .loop in
+    let b = c .before .before .before .before .before .before .before .before .before .before .before .before .before .before .before in
+    let a = b .before .before .before .before .before .before .before .before .args in
+    let l = b .loop in
     omega (arith, few (a .tokens .now) (a .text .now) (a .terms) (l .count) (l .states) (l .anchors) (l .handles) (l .m) (l .inv .0 .here))
 
 returns : tie.Need-returns Inv-loop μ-loop
 unfolding Turned
 returns c =
-    let a = c .before .before .before .before .before .before .before .before .before .before .before .before .before .before .before .before .before .before .before .before .before .before .before .before .args in
-    let l = c .before .before .before .before .before .before .before .before .before .before .before .before .before .before .before .before .loop in
+    let b = c .before .before .before .before .before .before .before .before .before .before .before .before .before .before .before .before in
+    let a = b .before .before .before .before .before .before .before .before .args in
+    let l = b .loop in
     let t = c .before .before .before .before .before .before .before .before .before .before .before .turn in
-    rw (c .answered .ensures) (going-ends (a .tokens .now) (a .text .now) (a .terms) (a .events .now) (l .events) (l .states) (l .anchors) (l .handles) (l .m) (l .count) (l .inv .0) (t .last .1 .1 .1 .1 .1 .0) (t .last .1 .1 .1 .1 .1 .1 .0) (t .last .1 .1 .1 .1 .1 .1 .1 .0) (t .last .1 .1 .1 .1 .1 .1 .1 .1 .0) (rw (c .before .enum-told .given .1) at (t .ensures)))
+    rw (c .answered .ensures) (going-ends (a .tokens .now) (a .text .now) (a .terms) (a .events .now) (l .events) (l .states) (l .anchors) (l .handles) (l .m) (l .count) (l .inv .0)
+    (t .last .1 .1 .1 .1 .1 .0) (t .last .1 .1 .1 .1 .1 .1 .0) (t .last .1 .1 .1 .1 .1 .1 .1 .0) (t .last .1 .1 .1 .1 .1 .1 .1 .1 .0)
+    (rw (c .before .enum-told .given .1) at (t .ensures)))
 
 answered-requires-2 : tie.Need-answered-requires-2 Inv-loop μ-loop
 answered-requires-2 c κs =
-    let a = c .before .before .before .before .before .before .before .before .before .before .before .before .before .before .before .before .before .before .before .before .before .before .before .before .args in
-    let l = c .before .before .before .before .before .before .before .before .before .before .before .before .before .before .before .before .loop in
+    let b = c .before .before .before .before .before .before .before .before .before .before .before .before .before .before .before .before in
+    let a = b .before .before .before .before .before .before .before .before .args in
+    let l = b .loop in
     omega (arith, few (a .tokens .now) (a .text .now) (a .terms) (l .count) (l .states) (l .anchors) (l .handles) (l .m) (l .inv .0 .here))
 
 returns-2 : tie.Need-returns-2 Inv-loop μ-loop
 unfolding Turned
 returns-2 c =
-    let a = c .before .before .before .before .before .before .before .before .before .before .before .before .before .before .before .before .before .before .before .before .before .before .before .before .before .args in
-    let l = c .before .before .before .before .before .before .before .before .before .before .before .before .before .before .before .before .before .loop in
+    let b = c .before .before .before .before .before .before .before .before .before .before .before .before .before .before .before .before .before in
+    let a = b .before .before .before .before .before .before .before .before .args in
+    let l = b .loop in
     let t = c .before .before .before .before .before .before .before .before .before .before .before .before .turn in
     let e = c .before .before .turned2 in
-    rw (c .answered2 .ensures) (going-stops (a .tokens .now) (a .text .now) (a .terms) (a .events .now) (l .events) (l .states) (l .anchors) (l .handles) (l .m) (l .count) (l .inv .0) (t .last .1 .1 .1 .1 .1 .0) (t .last .1 .1 .1 .1 .1 .1 .0) (t .last .1 .1 .1 .1 .1 .1 .1 .0) (t .last .1 .1 .1 .1 .1 .1 .1 .1 .0) _ _ (rw (e .given .1) at (t .ensures)))
+    rw (c .answered2 .ensures) (going-stops (a .tokens .now) (a .text .now) (a .terms) (a .events .now) (l .events) (l .states) (l .anchors) (l .handles) (l .m) (l .count) (l .inv .0)
+    (t .last .1 .1 .1 .1 .1 .0) (t .last .1 .1 .1 .1 .1 .1 .0) (t .last .1 .1 .1 .1 .1 .1 .1 .0) (t .last .1 .1 .1 .1 .1 .1 .1 .1 .0)
+    _ _ (rw (e .given .1) at (t .ensures)))
 
 pub steps-spec : {M : Type 1} → statement M
 steps-spec =
     tie.close
     (tie.spec
     Inv-loop μ-loop (search needs) loop-holds turn-requires (search needs) add-count loop-less loop-again (search needs) add-answered answered-requires
-    (λ c. c .before .before .before .before .before .before .before .before .before .before .before .turn .kept .1 .1 .1 .1 .1 .0 ∙ c .before .before .before .before .before .before .before .before .before .before .before .before .before .before .before .before .loop .inv .1) (λ c. c .before .before .before .before .before .before .before .before .before .before .before .turn .kept .1 .1 .1 .1 .1 .1 .0 ∙ c .before .before .before .before .before .before .before .before .before .before .before .before .before .before .before .before .loop .inv .2) (λ c. c .before .before .before .before .before .before .before .before .before .before .before .turn .kept .1 .1 .1 .1 .1 .1 .1 .0 ∙ c .before .before .before .before .before .before .before .before .before .before .before .before .before .before .before .before .loop .inv .3) (λ c. c .before .before .before .before .before .before .before .before .before .before .before .turn .kept .1 .1 .1 .1 .1 .1 .1 .1 .0 ∙ c .before .before .before .before .before .before .before .before .before .before .before .before .before .before .before .before .loop .inv .4)
+    (λ c. c .before .before .before .before .before .before .before .before .before .before .before .turn .kept .1 .1 .1 .1 .1 .0 ∙ c .before .before .before .before .before .before .before .before .before .before .before .before .before .before .before .before .loop .inv .1)
+    (λ c. c .before .before .before .before .before .before .before .before .before .before .before .turn .kept .1 .1 .1 .1 .1 .1 .0 ∙ c .before .before .before .before .before .before .before .before .before .before .before .before .before .before .before .before .loop .inv .2)
+    (λ c. c .before .before .before .before .before .before .before .before .before .before .before .turn .kept .1 .1 .1 .1 .1 .1 .1 .0 ∙ c .before .before .before .before .before .before .before .before .before .before .before .before .before .before .before .before .loop .inv .3)
+    (λ c. c .before .before .before .before .before .before .before .before .before .before .before .turn .kept .1 .1 .1 .1 .1 .1 .1 .1 .0 ∙ c .before .before .before .before .before .before .before .before .before .before .before .before .before .before .before .before .loop .inv .4)
     returns (search needs) answered-requires-2
-    (λ c. c .before .before .before .before .before .before .before .before .before .before .before .before .turn .kept .1 .1 .1 .1 .1 .0 ∙ c .before .before .before .before .before .before .before .before .before .before .before .before .before .before .before .before .before .loop .inv .1) (λ c. c .before .before .before .before .before .before .before .before .before .before .before .before .turn .kept .1 .1 .1 .1 .1 .1 .0 ∙ c .before .before .before .before .before .before .before .before .before .before .before .before .before .before .before .before .before .loop .inv .2) (λ c. c .before .before .before .before .before .before .before .before .before .before .before .before .turn .kept .1 .1 .1 .1 .1 .1 .1 .0 ∙ c .before .before .before .before .before .before .before .before .before .before .before .before .before .before .before .before .before .loop .inv .3) (λ c. c .before .before .before .before .before .before .before .before .before .before .before .before .turn .kept .1 .1 .1 .1 .1 .1 .1 .1 .0 ∙ c .before .before .before .before .before .before .before .before .before .before .before .before .before .before .before .before .before .loop .inv .4)
+    (λ c. c .before .before .before .before .before .before .before .before .before .before .before .before .turn .kept .1 .1 .1 .1 .1 .0 ∙ c .before .before .before .before .before .before .before .before .before .before .before .before .before .before .before .before .before .loop .inv .1)
+    (λ c. c .before .before .before .before .before .before .before .before .before .before .before .before .turn .kept .1 .1 .1 .1 .1 .1 .0 ∙ c .before .before .before .before .before .before .before .before .before .before .before .before .before .before .before .before .before .loop .inv .2)
+    (λ c. c .before .before .before .before .before .before .before .before .before .before .before .before .turn .kept .1 .1 .1 .1 .1 .1 .1 .0 ∙ c .before .before .before .before .before .before .before .before .before .before .before .before .before .before .before .before .before .loop .inv .3)
+    (λ c. c .before .before .before .before .before .before .before .before .before .before .before .before .turn .kept .1 .1 .1 .1 .1 .1 .1 .1 .0 ∙ c .before .before .before .before .before .before .before .before .before .before .before .before .before .before .before .before .before .loop .inv .4)
     returns-2)
