@@ -7,6 +7,7 @@ mod damaged;
 mod dress;
 mod fixture;
 mod grammar;
+mod letters;
 mod list;
 mod long;
 mod mutated;
@@ -21,5 +22,6 @@ mod words;
 
 pub use class::{class, Cases, Class, CLASSES};
 pub use fixture::fixture;
+pub use letters::letters;
 pub use list::List;
 pub use real::FILES;

@@ -18,6 +18,8 @@ Cases for the run of document 01 and the answers they must have.
         compares two answers to each case; ends with 1 if any differ
   lists fixture DIRECTORY
         writes the fixture, one file for each class
+  lists letters
+        lists a to l of document 01 with the Rust's answers, as the program lists_a_to_l writes its own
   lists --help
 
 tests/README.md describes the files. Classes:
@@ -38,6 +40,7 @@ fn main() -> ExitCode {
         ["show"] => commands::show(),
         ["diff", left, right, cases] => commands::diff(left, right, cases),
         ["fixture", directory] => commands::fixture(directory),
+        ["letters"] => files::print(&lists::letters()).map(|()| ExitCode::SUCCESS),
         [] => Err(files::usage("no command given")),
         _ => Err(files::usage(&format!("not understood: {}", words.join(" ")))),
     };

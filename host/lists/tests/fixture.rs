@@ -4,7 +4,7 @@ use std::collections::BTreeSet;
 use std::fs;
 use std::path::Path;
 
-const DIRECTORY: &str = concat!(env!("CARGO_MANIFEST_DIR"), "/../../tests/fixture");
+const DIRECTORY: &str = concat!(env!("CARGO_MANIFEST_DIR"), "/../../crates/replay/data");
 
 #[test]
 fn the_files_are_those_that_are_made_now() {

@@ -1,0 +1,74 @@
+//! The words of the command.
+
+const HELP: &str = "\
+The proved run beside the Rust: every field of every event, number, count, place, the returned
+number, what must stay as it was and what must be zero.
+
+  beside run [--count N] [--seed S] [--class CLASS]
+        N lists of each class (default: 250000, seed 0, all classes); ends with 1 if any differ
+  beside --help
+
+A listed class (named, crossed, short, long, real) has an order of its own and may end before N;
+there the seed is the number of the page of N lists. Classes:
+";
+
+/// What is asked for.
+#[derive(Debug, PartialEq, Eq)]
+pub enum Asked {
+    Help,
+    Run(Options),
+}
+
+/// Which lists are run.
+#[derive(Debug, PartialEq, Eq)]
+pub struct Options {
+    pub count: usize,
+    pub seed: u64,
+    /// None: all.
+    pub class: Option<&'static str>,
+}
+
+impl Options {
+    const DEFAULT: Options = Options { count: 250_000, seed: 0, class: None };
+
+    pub fn classes(&self) -> impl Iterator<Item = &'static str> + '_ {
+        let asked = |name: &&'static str| self.class.is_none_or(|class| class == *name);
+        lists::CLASSES.iter().map(|class| class.name).filter(asked)
+    }
+}
+
+pub fn help() -> String {
+    let rows = lists::CLASSES.iter().map(|class| format!("  {:8} {}\n", class.name, class.about));
+    rows.fold(HELP.to_owned(), |help, row| help + &row)
+}
+
+pub fn parse(words: &[&str]) -> Result<Asked, String> {
+    match words {
+        ["--help" | "-h" | "help"] => Ok(Asked::Help),
+        ["run", options @ ..] => read(options).map(Asked::Run),
+        [] => Err("no command given".to_owned()),
+        _ => Err(format!("not understood: {}", words.join(" "))),
+    }
+}
+
+fn read(words: &[&str]) -> Result<Options, String> {
+    let mut options = Options::DEFAULT;
+    for option in words.chunks(2) {
+        match *option {
+            ["--count", value] => options.count = number(value)?,
+            ["--seed", value] => options.seed = number(value)?,
+            ["--class", value] => options.class = Some(class(value)?),
+            _ => return Err(format!("not understood: {}", option.join(" "))),
+        }
+    }
+    Ok(options)
+}
+
+fn number<T: std::str::FromStr>(word: &str) -> Result<T, String> {
+    word.parse().map_err(|_| format!("not a number: {word}"))
+}
+
+fn class(word: &str) -> Result<&'static str, String> {
+    let found = lists::CLASSES.iter().find(|class| class.name == word);
+    found.map(|class| class.name).ok_or_else(|| format!("there is no class {word}"))
+}
