@@ -17,6 +17,7 @@ use Rattle.tables.specs.Tables.{entered}
 use Rattle.tables.specs.Handles.{named}
 use Rattle.tables.specs.declared.handles.Handle.{Handle}
 use Rattle.rules.specs.Lists.{in-bytes}
+use Rattle.rules.proofs.Granted.{declare-more}
 use Rattle.rules.specs.Rules.{declare, declare-read}
 use Rattle.rules.specs.Rules.Words as r
 use Rattle.rules.specs.Rules.Words.{if_then_else_, is, first, hit?}
@@ -47,14 +48,6 @@ declare-unset x zero at hs = refl
 declare-unset x (suc n) at hs =
     declare-unset x n (suc at) (declare-read (given x) (readAt (x .tokens) (length (x .text)) at) hs)
     ∙ ap (λ l. declare (unset (x .tokens) (x .text)) n (suc at) l) (read-unset x (readAt (x .tokens) (length (x .text)) at) hs)
-
--- the last of the directives
-pub declare-last : (g : r.Given) (n at : ℕ) (hs : List Handle) → declare g (suc n) at hs ≡ declare-read g (g .read (at + n)) (declare g n at hs)
-unfolding declare
-declare-last g zero at hs = let e : at + 0 ≡ at = omega arith in rw e
-declare-last g (suc n) at hs =
-    let e : at + suc n ≡ suc at + n = omega arith in
-    declare-last g n (suc at) (declare-read g (g .read at) hs) ∙ rw e
 
 -- equal names are found alike
 alike : (text : List ℕ) (a b c : Range) → sameName text a b ≡ true → sameName text a c ≡ sameName text b c
@@ -113,7 +106,7 @@ module _ (tokens text : List ℕ) (name : Range) where
   pub own-next : (from n : ℕ) → own from (suc n) ≡ own from n || told text name (readAt tokens (length text) (from + n))
   unfolding unset in-bytes
   own-next from n =
-      ap (λ l. hit? (first (named text name) l)) (declare-last (unset tokens text) n from [])
+      ap (λ l. hit? (first (named text name) l)) (declare-more (unset tokens text) n from [])
       ∙ read-hit (readAt tokens (length text) (from + n)) (declare (unset tokens text) n from [])
 
   pub own-none : (from : ℕ) → own from 0 ≡ false
@@ -143,7 +136,7 @@ module _ (tokens text : List ℕ) (name : Range) where
   unfolding declare unset in-bytes
   either from zero hs = or-false _ ∙ rw (own-none from)
   either from (suc n) hs =
-      ap (λ l. hit? (first (named text name) l)) (declare-last (unset tokens text) n from hs)
+      ap (λ l. hit? (first (named text name) l)) (declare-more (unset tokens text) n from hs)
       ∙ read-hit (readAt tokens (length text) (from + n)) (declare (unset tokens text) n from hs)
       ∙ rw (either from n hs, own-next from n) (or-assoc (hit? (first (named text name) hs)) (own from n) _)
 
@@ -154,7 +147,7 @@ module _ (tokens text : List ℕ) (from i : ℕ) (hs : List Handle) (h : from �
   count-at =
       let q : suc i - from ≡ suc (i - from) = omega arith in
       let e : from + (i - from) ≡ i = omega arith in
-      rw q (rw e at (declare-last (unset tokens text) (i - from) from hs))
+      rw q (rw e at (declare-more (unset tokens text) (i - from) from hs))
 
   pub count-other : (t : Token) → readAt tokens (length text) i ≡ read.Token t → is t r.TAG-DIRECTIVE ≡ false
       → length (declare (unset tokens text) (i - from) from hs) ≡ length (declare (unset tokens text) (suc i - from) from hs)
