@@ -1,12 +1,15 @@
 -- What the face leaves, with an answer buffer too short and with one that is not. Assumes nothing.
 use mathlib.Core.Path.{_≡_, ap}
-use mathlib.Core.List.{List}
-use Prim.Native.Nat.{ℕ, _≤_, _<_}
+use mathlib.Core.List.{List, [], _∷_}
+use Prim.Native.Nat.{ℕ, _%_, _^_, _≤_, _<_}
 use borrow.Author.Tests.{lt-ltb, le-ltb}
 use lib.ListN.{length}
 use Rattle.run.specs.Run.{Left, left, runs}
 use Rattle.run.specs.declared.Answer.{Answer}
-use Rattle.face.specs.Face.{faced, on, answered, returned, saphyr-run}
+use Rattle.places.specs.Places.{stored}
+use Rattle.load.specs.Load.{loaded}
+use Rattle.load.specs.declared.Answer as load
+use Rattle.face.specs.Face.{faced, on, answered, returned, saphyr-run, walked, said, saphyr-load}
 
 module _ (tokens text : List ℕ) (keep forget : ℕ) (events states anchors handles answer : List ℕ) where
   pub no-answer : length answer < 12 → faced 28 events states anchors handles answer ≡ saphyr-run tokens text keep forget events states anchors handles answer
@@ -18,3 +21,13 @@ module _ (tokens text : List ℕ) (keep forget : ℕ) (events states anchors han
       → faced (a .number) e s n h after ≡ saphyr-run tokens text keep forget events states anchors handles answer
   unfolding saphyr-run returned left
   run-answer l a e s n h after q w = rw (le-ltb (length answer) 12 l, w) (ap (λ (x : Left). returned x answer) q)
+
+module _ (events answer : List ℕ) where
+  pub no-walk : length answer < 12 → walked 28 answer ≡ saphyr-load events answer
+  unfolding saphyr-load
+  no-walk h = rw (lt-ltb (length answer) 12 h)
+
+  pub walk-answer : 12 ≤ length answer → (a : load.Answer) → a ≡ loaded events → (after : List ℕ) → after ≡ stored answer 0 (a .number ∷ a .count ∷ a .place % 2 ^ 32 ∷ [])
+      → walked (a .number) after ≡ saphyr-load events answer
+  unfolding saphyr-load said
+  walk-answer l a q after w = rw (le-ltb (length answer) 12 l, w) (ap (λ x. said x answer) q)

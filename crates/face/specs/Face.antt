@@ -1,5 +1,5 @@
 -- What the C face leaves: the number that it returns, and every byte that it was lent.
-use Prim.Native.Nat.{ℕ}
+use Prim.Native.Nat.{ℕ, _%_, _^_}
 use mathlib.Core.Bool.{Bool, not, cond}
 use mathlib.Core.List.{List, [], _∷_}
 use lib.Dec.{eqb, ltb}
@@ -7,6 +7,8 @@ use lib.ListN.{length}
 use Rattle.places.specs.Places.{stored}
 use Rattle.run.specs.Run.{Left, runs}
 use Rattle.run.specs.declared.Answer.{Answer}
+use Rattle.load.specs.Load.{loaded}
+use Rattle.load.specs.declared.Answer as load
 
 pub record Faced : Type 0 where
   pub number : ℕ
@@ -38,3 +40,18 @@ unfoldable pub saphyr-run : List ℕ → List ℕ → ℕ → ℕ → List ℕ �
 saphyr-run tokens text keep forget events states anchors handles answer =
     cond (ltb (length answer) 12) (faced 28 events states anchors handles answer)
     (returned (runs tokens text (record { keep = on keep; forget = on forget }) events states anchors handles) answer)
+
+-- what the walk leaves: the number that it returns, and the answer buffer
+pub record Walked : Type 0 where
+  pub number : ℕ
+  pub answer : List ℕ
+
+unfoldable pub walked : ℕ → List ℕ → Walked
+walked number answer = record { number = number; answer = answer }
+
+-- an index has 4 bytes here
+unfoldable pub said : load.Answer → List ℕ → Walked
+said a answer = walked (a .number) (stored answer 0 (a .number ∷ a .count ∷ a .place % 2 ^ 32 ∷ []))
+
+unfoldable pub saphyr-load : List ℕ → List ℕ → Walked
+saphyr-load events answer = cond (ltb (length answer) 12) (walked 28 answer) (said (loaded events) answer)

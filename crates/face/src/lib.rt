@@ -1,6 +1,6 @@
-// The run by the C convention, over byte buffers alone. include/saphyr_events.h declares it.
+// The run and the walk of `load` by the C convention, over byte buffers alone. include/saphyr_events.h declares them.
 ghost use mathlib.Core.Path.{_≡_};
-ghost use Rattle.face.specs.Face.{faced, saphyr-run};
+ghost use Rattle.face.specs.Face.{faced, saphyr-run, walked, saphyr-load};
 use run::Settings;
 
 // The answer takes 12 bytes: number, count and place.
@@ -32,6 +32,20 @@ pub extern "C" fn saphyr_run(
     };
     let given = run::run(tokens, text, settings, events, states, anchors, handles);
     let numbers = [given.number, given.count, given.place];
+    places::put_place(answer, 0, &numbers);
+    given.number
+}
+
+#[no_mangle]
+pub extern "C" fn saphyr_load(events: &[u8], answer: &mut [u8]) -> u32
+    ensures { λ r. ⌜ walked r (now (answer .exit)) ≡ saphyr-load (now (events .entry)) (now (answer .entry)) ⌝ }
+{
+    if answer.len() < ANSWER {
+        return NO_ANSWER;
+    }
+    let given = load::load(events);
+    let place = (given.place % 4294967296) as u32;
+    let numbers = [given.number, given.count, place];
     places::put_place(answer, 0, &numbers);
     given.number
 }

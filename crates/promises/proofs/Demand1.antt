@@ -3,7 +3,7 @@ use mathlib.Core.Path.{_≡_, refl}
 use mathlib.Core.Bool.{Bool, true, false, not, cond, _||_}
 use mathlib.Core.List.{List}
 use mathlib.Core.Logic.{_⊎_, inl, inr}
-use Prim.Native.Nat.{ℕ, zero, suc, _*_, _%_, _^_, _≤_}
+use Prim.Native.Nat.{ℕ, _*_, _%_, _^_, _≤_}
 use native.Mathlib.Omega.{arith}
 use borrow.Author.Tests.{le-leb, lt-leb, eqb-true}
 use lib.Dec.{ltb, eqb}
@@ -14,14 +14,17 @@ use Rattle.records.specs.declared.tokens.Refusal.{Refusal}
 use Rattle.records.specs.declared.checks.Checked.{Checked}
 use Rattle.records.specs.declared.checks.Checked.the-variants as checked
 use Rattle.records.proofs.CheckLaws.{passed}
-use Rattle.rules.specs.Rules.Words.{Given, if_then_else_}
-use Rattle.rules.specs.Run.{Rooms, Model, Step, Go, Halt, Stuck, step, stop, store, ended, onward, fresh, run}
+use Rattle.records.proofs.EventLaws.{length-written}
+use Rattle.rules.specs.Rules.Words.{Given}
+use Rattle.rules.specs.Run.{Rooms}
 use Rattle.rules.proofs.ListLaws.{checked-list}
+use Rattle.rules.proofs.Runs as rules
 use Rattle.rules.proofs.NeverStuck.{Answer, plain, no-event, no-place, answered, short-range}
-use Rattle.run.specs.Run.{runs, told, checkedRun, written}
+use Rattle.records.specs.Events.{written}
+use Rattle.run.specs.Run.{runs, told, checkedRun}
 use Rattle.promises.specs.Demands.{Call, after, known, of-first-checks, Zero, given, rooms, by-rules}
 use Rattle.promises.proofs.ByteLaws.{false-true}
-use Rattle.promises.proofs.WrittenLaws.{written-length, written-other, cleared-zero}
+use Rattle.promises.proofs.WrittenLaws.{written-other, cleared-zero}
 
 -- a call that runs: the answer and the events are the rules'
 pub record Ran (c : Call) : Type 0 where
@@ -125,30 +128,16 @@ no-event-written c = go (judged c) where
   go (passed-on q r) i = absurd (not-first (ruled c q) (rw (r .number) at i))
 
 -- as many events as there is room for
-pub run-fits : (r : Rooms) (g : Given) (n : ℕ) (m : Model) → length (run r g n m .events) ≤ n
-unfolding run onward store stop if_then_else_
-run-fits r g zero m = go (step r g m) where
-  go : (x : Step) → length (onward m x (λ e m′. stop m 22 0) .events) ≤ zero
-  go (Go e m′) = omega arith
-  go (Halt number place) = omega arith
-  go Stuck = omega arith
-run-fits r g (suc n) m = go (λ m′. run-fits r g n m′) (step r g m) where
-  rest : ((m′ : Model) → length (run r g n m′ .events) ≤ n) → (t : Bool) (m′ : Model) → length ((if t then stop m′ 0 0 else run r g n m′) .events) ≤ n
-  rest ih true m′ = omega arith
-  rest ih false m′ = ih m′
-
-  go : ((m′ : Model) → length (run r g n m′ .events) ≤ n) → (x : Step) → length (onward m x (λ e m′. store e (if ended (m′ .state) then stop m′ 0 0 else run r g n m′)) .events) ≤ suc n
-  go ih (Go e m′) = omega (arith, rest ih (ended (m′ .state)) m′)
-  go ih (Halt number place) = omega arith
-  go ih Stuck = omega arith
+pub fits : (c : Call) → length (by-rules c .events) ≤ places (c .events) 48
+unfolding by-rules
+fits c = let n = rules.ran (rooms c) (given c) (places (c .events) 48) .room in omega arith
 
 -- the events that are counted have room
 pub count-fits : (c : Call) → after c .answer .count ≤ places (c .events) 48
-unfolding by-rules
 count-fits c = go (judged c) where
   go : Judged c → after c .answer .count ≤ places (c .events) 48
   go (refused n k e f h) = rw f (omega arith)
-  go (passed-on q r) = rw (r .count) (run-fits (rooms c) (given c) (places (c .events) 48) fresh)
+  go (passed-on q r) = rw (r .count) (fits c)
 
 -- "the events before it stand and the rest of the event buffer is untouched"
 pub rest-untouched : (c : Call) (i : ℕ) → 48 * after c .answer .count ≤ i → getD (after c .events) i 0 ≡ getD (c .events) i 0
@@ -161,7 +150,7 @@ pub events-long : (c : Call) → length (after c .events) ≡ length (c .events)
 events-long c = go (judged c) where
   go : Judged c → length (after c .events) ≡ length (c .events)
   go (refused n k e f h) = rw h
-  go (passed-on q r) = rw (r .events) (written-length (by-rules c .events) (c .events) 0)
+  go (passed-on q r) = rw (r .events) (length-written (c .events) 0 (by-rules c .events))
 
 -- "Work memory ends all zero"
 module _ (c : Call) where

@@ -17,7 +17,7 @@ use Rattle.records.specs.declared.events.Event.{Event}
 use Rattle.records.specs.declared.events.Tag.{Tag}
 use Rattle.records.specs.declared.tokens.Token.{Token}
 use Rattle.rules.specs.Rules.Words.{Given, plain}
-use Rattle.rules.specs.Run.{Outcome, fresh}
+use Rattle.rules.specs.Run.{Outcome}
 use Rattle.rules.specs.Lists.{listed}
 use Rattle.rules.specs.Needs.{ample, enough}
 use Rattle.rules.specs.Starred.{Pick, Case, bare, named, tagged, ev, scalar, alias-over, same-range, same-tag, same-event, picked, as-said, check, check-all, starred}
@@ -29,7 +29,7 @@ use Rattle.promises.specs.Bytes.{as-bytes, numbers, small, empty, tidy, 
 use Rattle.promises.specs.Demands.{Call, after, Holds, given, rooms, by-rules, Roomy, Lends, Shown, Said, Each}
 use Rattle.promises.proofs.ByteLaws.{and-both, checks-pass, given-back, places-bytes}
 use Rattle.promises.proofs.WrittenLaws.{written-each}
-use Rattle.promises.proofs.Demand1.{Passes, ran, run-fits}
+use Rattle.promises.proofs.Demand1.{Passes, ran, fits}
 
 -- "Events, spans, anchor ids, resolved tags and the first refusal are equal to the step rules": number, place, and each event
 -- in its place
@@ -40,10 +40,9 @@ pub record Right (c : Call) (o : Outcome) : Type 0 where
   pub each : (k : ℕ) → k < length (o .events) → Holds (after c .events) k (getD (o .events) k (plain 0 0 0 0))
 
 pub every-event-right : (c : Call) → Passes c → Right c (by-rules c)
-unfolding by-rules
 every-event-right c p =
     let r = ran c p in
-    let n = run-fits (rooms c) (given c) (places (c .events) 48) fresh in
+    let n = fits c in
     record {
       number = r .number;
       place = r .place;

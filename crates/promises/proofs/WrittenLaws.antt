@@ -12,9 +12,9 @@ use Rattle.places.specs.Words.{encode}
 use Rattle.places.specs.Places.{places, hasPlace, stored, zeroed}
 use Rattle.places.proofs.WordLaws.{length-encode, getD-sets, getD-sets-other}
 use Rattle.places.proofs.PlaceLaws.{room, length-stored}
-use Rattle.records.specs.Events.{numbersOf}
+use Rattle.records.specs.Events.{numbersOf, written}
 use Rattle.records.specs.declared.events.Event.{Event}
-use Rattle.run.specs.Run.{written, cleared}
+use Rattle.run.specs.Run.{cleared}
 use Rattle.promises.specs.Demands.{Holds, Zero}
 
 length-event : (e : Event) → length (encode (numbersOf e)) ≡ 48
@@ -35,11 +35,6 @@ stored-in b at e h j l =
     let r = room at (length b) 48 h in
     let n = length-event e in
     rw (lt-ltb at (places b 48) h) (getD-sets (encode (numbersOf e)) b (48 * at) j (omega arith) (omega arith))
-
-pub written-length : (es : List Event) (b : List ℕ) (at : ℕ) → length (written b at es) ≡ length b
-unfolding written
-written-length [] b at = refl
-written-length (e ∷ es) b at = written-length es (stored b at (numbersOf e)) (suc at) ∙ length-stored b at (numbersOf e)
 
 -- what stands before them and behind them
 pub written-other : (es : List Event) (b : List ℕ) (at i : ℕ) → (i < 48 * at) ⊎ (48 * (at + length es) ≤ i) → getD (written b at es) i 0 ≡ getD b i 0

@@ -112,7 +112,7 @@ module _ (r : Rooms) {g : Given} (l : Listed g) where
       rw e at (reaches-run n 0 fresh lists.start tt refl)
 
 -- a kind that ends nothing begins a node, whatever is open
-begins : (o : List Open) (kind : ℕ) → eqb kind 8 ≡ false → eqb kind 10 ≡ false → k.within o kind ≡ k.begin o kind
+pub begins : (o : List Open) (kind : ℕ) → eqb kind 8 ≡ false → eqb kind 10 ≡ false → k.within o kind ≡ k.begin o kind
 unfolding k.within
 begins [] kind e f = refl
 begins (k.sequence ∷ o) kind e f = rw e
@@ -124,7 +124,7 @@ enters true p = inl refl
 enters false p = inr refl
 
 -- an event that may come leads on, or opens the 1,001st collection
-may-lead : {p q : Place} {kind : ℕ} → May p kind q → (k.lead p kind ≡ k.to q) ⊎ (k.lead p kind ≡ k.no 31)
+pub may-lead : {p q : Place} {kind : ℕ} → May p kind q → (k.lead p kind ≡ k.to q) ⊎ (k.lead p kind ≡ k.no 31)
 unfolding k.lead k.within k.begin k.enter
 may-lead k.stream-start = inl refl
 may-lead k.stream-end = inl refl

@@ -32,7 +32,8 @@ use Rattle.parser.specs.declared.Terms.{Terms}
 use Rattle.parser.specs.declared.Stepped.{Stepped}
 use Rattle.parser.specs.declared.Step.the-variants as st
 use Rattle.run.specs.Apply.{opensOf}
-use Rattle.run.specs.Run.{Told, told, written}
+use Rattle.records.specs.Events.{written}
+use Rattle.run.specs.Run.{Told, told}
 use Rattle.run.specs.Turns as turns
 use Rattle.run.specs.Turns.{stopped, answered, tell, modelOf, givenOf, Ready, Here, rest, takenTurn, takenBytes, Taking, On, Ended, Stopped, Turned}
 use Rattle.run.specs.declared.Went.{Went}

@@ -1,13 +1,12 @@
 -- What a run leaves: its answer, and every byte that it was lent.
-use Prim.Native.Nat.{ℕ, suc}
-use mathlib.Core.List.{List, [], _∷_}
+use Prim.Native.Nat.{ℕ}
+use mathlib.Core.List.{List}
 use lib.ListN.{length}
-use Rattle.places.specs.Places.{places, stored, zeroed}
+use Rattle.places.specs.Places.{places, zeroed}
 use Rattle.records.specs.Checks.{firstChecks}
-use Rattle.records.specs.Events.{numbersOf}
+use Rattle.records.specs.Events.{written}
 use Rattle.records.specs.declared.checks.Checked.{Checked}
 use Rattle.records.specs.declared.checks.Checked.the-variants as checked
-use Rattle.records.specs.declared.events.Event.{Event}
 use Rattle.rules.specs.Run.{Rooms, Outcome, fresh}
 use Rattle.rules.specs.Run as rules
 use Rattle.rules.specs.Lists.{in-bytes}
@@ -20,11 +19,6 @@ pub record Left : Type 0 where
   pub states : List ℕ
   pub anchors : List ℕ
   pub handles : List ℕ
-
--- events stored one after another from place `at` on
-unfoldable pub written : List ℕ → ℕ → List Event → List ℕ
-written b at [] = b
-written b at (e ∷ es) = written (stored b at (numbersOf e)) (suc at) es
 
 unfoldable pub cleared : List ℕ → List ℕ
 cleared b = zeroed (length b) b

@@ -1,0 +1,4 @@
+pub mod Load
+pub mod Parts
+pub mod Grammar
+pub mod Meaning
