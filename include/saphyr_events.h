@@ -23,9 +23,10 @@
  * anchor's id), 6 Scalar, 7 SequenceStart, 8 SequenceEnd, 9 MappingStart, 10 MappingEnd (6, 7, 9: number is the anchor's
  * id or 0). Tag source: 0 none, 1 the prefix is "tag:yaml.org,2002:", 2 a range of the text. Unused fields are 0.
  *
- * Memory to lend for a list of T tokens, so that no room is ever short: SAPHYR_EVENTS_BYTES(T) bytes of events and
- * SAPHYR_STATES_BYTES(T), SAPHYR_ANCHORS_BYTES(T), SAPHYR_HANDLES_BYTES(T) bytes of work memory. Less may do; numbers
- * 22 to 25 say which was short.
+ * Memory to lend for a list of T tokens, so that no room is ever short, whatever the list: SAPHYR_EVENTS_BYTES(T) bytes
+ * of events and SAPHYR_STATES_BYTES(T), SAPHYR_ANCHORS_BYTES(T), SAPHYR_HANDLES_BYTES(T) bytes of work memory, for T up to
+ * SAPHYR_MAX_TOKENS (proved: `never-short` in crates/promises/proofs/Demand3.antt). A longer list is answered by 26 in no
+ * memory at all. Less may do; numbers 22 to 25 say which was short. The macros are constant expressions where T is one.
  *
  * The numbers:
  *
@@ -59,6 +60,10 @@
 #define SAPHYR_HANDLE_BYTES 16
 #define SAPHYR_ANSWER_BYTES 12
 
+/* A list with more tokens is answered by 26, a text with more bytes by 27. */
+#define SAPHYR_MAX_TOKENS 65536
+#define SAPHYR_MAX_TEXT_BYTES 16777216
+
 #define SAPHYR_EVENTS_BYTES(tokens) ((size_t)3 * SAPHYR_EVENT_BYTES * (tokens))
 #define SAPHYR_STATES_BYTES(tokens) ((size_t)SAPHYR_STATE_BYTES * (tokens))
 #define SAPHYR_ANCHORS_BYTES(tokens) ((size_t)SAPHYR_ANCHOR_BYTES * (tokens))
@@ -87,6 +92,19 @@ uint32_t saphyr_run(const uint8_t *tokens, size_t tokens_len,
                     uint8_t *anchors, size_t anchors_len,
                     uint8_t *handles, size_t handles_len,
                     uint8_t *answer, size_t answer_len);
+
+/*
+ * The walk of `load` over event records, any bytes: whether they are StreamStart, documents of one node each, StreamEnd.
+ * Reads kinds only. The answer's number is returned too; its count is 0.
+ *
+ *    0  they are                                      30  the event at index `place` cannot stand there; the number of
+ *   20  events_len is no multiple of 48                   events, if the list ends early
+ *   28  answer buffer under 12 bytes; nothing is      31  the event at `place` would be the 1,001st open collection
+ *       touched
+ *
+ * The first met from the left is given. Each accepted run's events pass, or are answered 31.
+ */
+uint32_t saphyr_load(const uint8_t *events, size_t events_len, uint8_t *answer, size_t answer_len);
 
 #ifdef __cplusplus
 }

@@ -1,5 +1,6 @@
 #!/usr/bin/env bash
 # Damaged lists through the C face: compiles tests/c against the proved library and runs it. Arguments go to the program.
+# Before that, the memory to lend as the header has it, in C and in C++: both print the same.
 set -euo pipefail
 cd "$(dirname "$0")/../.."
 
@@ -10,6 +11,16 @@ if [ ! -f "$library" ]; then
 fi
 folder=$(mktemp -d)
 trap 'rm -rf "$folder"' EXIT
-gcc -std=c11 -O2 -Wall -Wextra -Werror -Iinclude tests/c/damaged.c tests/c/lists.c "$library" -o "$folder/damaged"
+warn="-O2 -Wall -Wextra -Werror -Iinclude"
+gcc -std=c11 $warn tests/c/rooms.c -o "$folder/rooms"
+"$folder/rooms" >"$folder/rooms.txt"
+if command -v g++ >/dev/null; then
+    g++ -std=c++11 $warn -x c++ tests/c/rooms.c -o "$folder/rooms++"
+    "$folder/rooms++" | cmp - "$folder/rooms.txt"
+    echo "rooms: $(wc -l <"$folder/rooms.txt") numbers of tokens, the same in C and C++"
+else
+    echo "rooms: C only, there is no g++"
+fi
+gcc -std=c11 $warn tests/c/damaged.c tests/c/lists.c "$library" -o "$folder/damaged"
 # A call that does not return is a failure too.
 timeout 600 "$folder/damaged" "$@"

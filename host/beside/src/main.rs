@@ -13,6 +13,8 @@ fn main() -> ExitCode {
     let done = match parse(&words) {
         Ok(Asked::Help) => print(&options::help()).map(|()| ExitCode::SUCCESS),
         Ok(Asked::Run(options)) => run(&options),
+        Ok(Asked::Rooms(tokens)) => rooms(tokens),
+        Ok(Asked::Walk(options)) => walk(&options),
         Err(message) => Err(io::Error::other(format!("{message} (beside --help)"))),
     };
     match done {
@@ -26,10 +28,29 @@ fn main() -> ExitCode {
     }
 }
 
-fn run(options: &Options) -> io::Result<ExitCode> {
-    if !beside::LINKED {
-        return Err(io::Error::other(beside::MISSING));
+fn linked() -> io::Result<()> {
+    match beside::LINKED {
+        true => Ok(()),
+        false => Err(io::Error::other(beside::MISSING)),
     }
+}
+
+fn rooms(tokens: usize) -> io::Result<ExitCode> {
+    linked()?;
+    let begun = Instant::now();
+    match beside::mixtures(tokens) {
+        Ok(mixed) => print(&table::mixed(&mixed))?,
+        Err(words) => {
+            print(&format!("not as stated: {words}"))?;
+            return Ok(ExitCode::from(1));
+        }
+    }
+    print(&format!("{:.1} seconds\n", begun.elapsed().as_secs_f64()))?;
+    Ok(ExitCode::SUCCESS)
+}
+
+fn run(options: &Options) -> io::Result<ExitCode> {
+    linked()?;
     let begun = Instant::now();
     let mut table = table::Table::default();
     print(&table::head())?;
@@ -43,6 +64,23 @@ fn run(options: &Options) -> io::Result<ExitCode> {
     match table.lists() {
         0 => Err(io::Error::other("no list was compared: the listed classes end before this seed")),
         _ => Ok(ExitCode::from(u8::from(table.differ() > 0))),
+    }
+}
+
+fn walk(options: &Options) -> io::Result<ExitCode> {
+    linked()?;
+    let begun = Instant::now();
+    print(&table::walk_head())?;
+    let mut differ = 0;
+    for (class, make) in beside::WALKS {
+        let walked = beside::walks(make, options.seed, options.count);
+        differ += walked.differ;
+        print(&table::walked(class, &walked))?;
+    }
+    print(&format!("{:.1} seconds\n", begun.elapsed().as_secs_f64()))?;
+    match options.count {
+        0 => Err(io::Error::other("no list was compared: --count is 0")),
+        _ => Ok(ExitCode::from(u8::from(differ > 0))),
     }
 }
 

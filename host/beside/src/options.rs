@@ -6,6 +6,12 @@ number, what must stay as it was and what must be zero.
 
   beside run [--count N] [--seed S] [--class CLASS]
         N lists of each class (default: 250000, seed 0, all classes); ends with 1 if any differ
+  beside rooms [--tokens N]
+        every list of up to N tokens (default: 6) that the Rust's run goes on with, in every mixture of
+        rooms at the need and one place under it; ends with 1 at the first call answered otherwise
+  beside walk [--count N] [--seed S]
+        N event lists of each kind (default: 50000, seed 0) through the proved walk of load and one written
+        by hand; ends with 1 if any differ
   beside --help
 
 A listed class (named, crossed, short, long, real) has an order of its own and may end before N;
@@ -17,6 +23,9 @@ there the seed is the number of the page of N lists. Classes:
 pub enum Asked {
     Help,
     Run(Options),
+    /// Lists of up to this many tokens in every mixture of rooms.
+    Rooms(usize),
+    Walk(Options),
 }
 
 /// Which lists are run.
@@ -30,6 +39,7 @@ pub struct Options {
 
 impl Options {
     const DEFAULT: Options = Options { count: 250_000, seed: 0, class: None };
+    const WALK: Options = Options { count: 50_000, ..Options::DEFAULT };
 
     pub fn classes(&self) -> impl Iterator<Item = &'static str> + '_ {
         let asked = |name: &&'static str| self.class.is_none_or(|class| class == *name);
@@ -45,14 +55,24 @@ pub fn help() -> String {
 pub fn parse(words: &[&str]) -> Result<Asked, String> {
     match words {
         ["--help" | "-h" | "help"] => Ok(Asked::Help),
-        ["run", options @ ..] => read(options).map(Asked::Run),
+        ["run", options @ ..] => read(Options::DEFAULT, options).map(Asked::Run),
+        ["walk", options @ ..] => walk(options).map(Asked::Walk),
+        ["rooms"] => Ok(Asked::Rooms(6)),
+        ["rooms", "--tokens", value] => number(value).map(Asked::Rooms),
         [] => Err("no command given".to_owned()),
         _ => Err(format!("not understood: {}", words.join(" "))),
     }
 }
 
-fn read(words: &[&str]) -> Result<Options, String> {
-    let mut options = Options::DEFAULT;
+/// The walk has no classes of token lists.
+fn walk(words: &[&str]) -> Result<Options, String> {
+    match read(Options::WALK, words)? {
+        options @ Options { class: None, .. } => Ok(options),
+        _ => Err("not understood: --class".to_owned()),
+    }
+}
+
+fn read(mut options: Options, words: &[&str]) -> Result<Options, String> {
     for option in words.chunks(2) {
         match *option {
             ["--count", value] => options.count = number(value)?,

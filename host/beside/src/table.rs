@@ -1,5 +1,5 @@
 //! What is printed: a row for each class, then the totals and the first difference.
-use beside::{Difference, Tally};
+use beside::{Difference, Mixed, Tally, Walked};
 use std::collections::BTreeMap;
 
 /// The rows so far.
@@ -48,6 +48,35 @@ impl Table {
         }
         lines
     }
+}
+
+pub fn walk_head() -> String {
+    format!(
+        "{:8} {:>8} {:>8} {:>8} {:>8} {:>8} {:>8}\n",
+        "class", "lists", "differ", "0", "20", "30", "31"
+    )
+}
+
+/// A class of event lists, how many are answered with each number, and the first difference.
+pub fn walked(class: &str, walked: &Walked) -> String {
+    let [passed, uneven, unexpected, deep] = walked.numbers;
+    let numbers = format!("{passed:8} {uneven:8} {unexpected:8} {deep:8}");
+    let row = format!("{class:8} {:8} {:8} {numbers}\n", walked.lists, walked.differ);
+    match &walked.first {
+        Some(first) => row + first + "\n",
+        None => row,
+    }
+}
+
+/// The lists by length, and the calls.
+pub fn mixed(mixed: &Mixed) -> String {
+    let mut lines = format!("{:>6} {:>10}\n", "tokens", "lists");
+    for (tokens, lists) in &mixed.lists {
+        lines += &format!("{tokens:6} {lists:10}\n");
+    }
+    lines += &format!("{:>6} {:10}\n", "all", mixed.lists.values().sum::<usize>());
+    lines += &format!("calls: {}, with several rooms short: {}\n", mixed.calls, mixed.several);
+    lines + &format!("answered by number: {}\n", by_number(&mixed.numbers))
 }
 
 fn by_number(numbers: &BTreeMap<u32, usize>) -> String {

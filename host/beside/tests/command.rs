@@ -23,6 +23,19 @@ fn a_run_prints_its_table() {
     assert!(shown.contains("\nall              12        0\n"), "{shown}");
 }
 
+/// No token, each of 26 letters, and each of them behind StreamStart, with four settings.
+#[test]
+fn a_sweep_of_rooms_prints_its_lists() {
+    let words = ["rooms", "--tokens", "2"];
+    if !beside::LINKED {
+        return assert!(message(&words).contains("rt staticlib face"));
+    }
+    let output = beside(&words);
+    let shown = String::from_utf8(output.stdout).expect("plain words");
+    assert_eq!(output.status.code(), Some(0), "{shown}");
+    assert!(shown.contains("\n   all        212\n"), "{shown}");
+}
+
 #[test]
 fn a_page_past_the_end_is_no_success() {
     let words = ["run", "--count", "1000", "--seed", "9", "--class", "named"];
@@ -39,6 +52,8 @@ fn mistakes_are_said() {
         (&["run", "--class", "nothing"], "no class nothing"),
         (&["run", "--count", "x"], "not a number: x"),
         (&["run", "--seed", "-1"], "not a number: -1"),
+        (&["rooms", "--tokens", "x"], "not a number: x"),
+        (&["rooms", "--token", "3"], "not understood: rooms --token 3"),
     ] {
         let said = message(words);
         assert!(said.starts_with("beside: ") && said.contains(part), "{words:?}: {said}");

@@ -25,3 +25,4 @@ pub use fixture::fixture;
 pub use letters::letters;
 pub use list::List;
 pub use real::FILES;
+pub use rng::Rng;

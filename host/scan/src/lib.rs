@@ -17,6 +17,6 @@ pub mod tokens;
 mod whole;
 
 use input::BufferedInput;
-pub use list::{scan, Scan};
+pub use list::{scan, scan_first, Scan};
 use scanner::Marker;
 pub use whole::{whole, Whole};

@@ -15,10 +15,15 @@ pub struct Scan {
 }
 
 pub fn scan(input: &str) -> Scan {
+    scan_first(input, usize::MAX)
+}
+
+/// The first tokens only, at most so many: an input with millions then asks for no more memory than these.
+pub fn scan_first(input: &str, most: usize) -> Scan {
     let mut scanner = Scanner::new(StrInput::new(input));
     let mut texts = Texts::new(input);
     let mut list = Vec::new();
-    for token in scanner.by_ref() {
+    for token in scanner.by_ref().take(most) {
         list.push(texts.record(&token));
     }
     let error = scanner.get_error();

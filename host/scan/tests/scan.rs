@@ -1,6 +1,6 @@
 //! Token lists of the real scanner.
 use records::kinds::{token_kind, ANCHOR, SCALAR};
-use scan::scan;
+use scan::{scan, scan_first};
 
 fn kinds(yaml: &str) -> String {
     let list = scan(yaml).list;
@@ -61,4 +61,16 @@ fn an_error_ends_the_list() {
     assert!(place > 0);
     assert!(scanned.list.iter().all(|token| token_kind(token.kind).short != "SE"));
     assert_eq!(scan("a: closed\n").error, None);
+}
+
+#[test]
+fn the_first_tokens_are_the_beginning_of_all() {
+    let yaml = "a: 'open\n";
+    let all = scan(yaml);
+    for most in 0..all.list.len() {
+        let first = scan_first(yaml, most);
+        assert_eq!(first.list, all.list[..most]);
+        assert_eq!(first.error, None, "the error stands behind the last token");
+    }
+    assert_eq!(scan_first(yaml, 100).error, all.error);
 }
