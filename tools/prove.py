@@ -6,7 +6,8 @@ Each return is one `simp` over the way that led there: what each call ensures, w
 held, the last first. What a call ensures is read from left to right, but where its result is matched or tested at once.
 Every other need is left to `search needs`. `rt dev CRATE` then says what is left to do by hand.
 The name `~` has each return follow its rule by the laws of proofs/By.antt instead, one for each test on the way, with a
-`simp` only at the end: for steps whose rule is too large for one `simp`. A name `+MODULE.law` adds a law of the crate's
+`simp` only at the end: for steps whose rule is too large for one `simp`; `~3` for one that holds of any three things more.
+`=by-over` for a plan: where it is a node it ends in that law, and it stands in the list. A name `+MODULE.law` adds a law of the crate's
 proofs to each `simp`, `^pre` what the function requires. --with FILE gives answers to needs, a line each: FUNCTION
 NEED TERM. A function with no Proof.antt gets one with a hole first, so that no search runs."""
 import os
@@ -22,6 +23,8 @@ LAWS = {
     "find-place": ("by-registered" + " _" * 5, "by-unregistered" + " _" * 5),
     "resolve-tag": ("by-tagged" + " _" * 7, "by-untagged" + " _" * 7),
 }
+# The law for a call whose value the rule goes on with.
+VALUES = {"skip-first": "by-first" + " _" * 6}
 
 
 def places(crate, function):
@@ -128,7 +131,7 @@ def chained(place, own, needs, start, extra):
     """The return of a step by the laws of By: one law for each test on the way, the first outermost, then the leaf."""
     steps, leaf, lets = [], [], []
     path, depth, pending, asked, at = "c", 0, 0, False, start
-    marks = {}
+    marks, node = {}, None
     while at != "Start":
         field, before = place[at]
         text = own.get(at, "")
@@ -149,8 +152,12 @@ def chained(place, own, needs, start, extra):
                     law = LAWS[name][law] if isinstance(law, int) else law
                     if law.startswith("by-none"):
                         leaf.append(rest[1:-1])
-                        extra = []
+                        extra = [e for e in extra if e[0] in "~="]
+                    if law.startswith("by-look") and not node:
+                        node = (f"({call}) {rest}", call.startswith("(rw add-one"), f"({here} .ensures) {rest}")
                     steps.append(f"{law} ({call}) {rest}")
+                elif re.sub(r"\d+$", "", field) in VALUES:
+                    steps.append(f"{VALUES[re.sub(chr(92) + 'd+$', '', field)]} ({call})")
                 else:
                     leaf.append(call)
             else:
@@ -176,11 +183,21 @@ def chained(place, own, needs, start, extra):
             steps.append(f"{law} refl {rest}")
         at = before
         pending += 1
-    leaf += [f"← {path}" + " .before" * pending + f" .{e[1:]}" for e in extra if e[0] == "^"]
-    leaf += [e.split(".")[-1] for e in extra if e[0] == "+"]
-    body = "simp (" + ", ".join(["add-one"] + leaf) + ")"
+    if node and not leaf:
+        law = next(e[1:] for e in extra if e[0] == "=")
+        body = law + " _" * 5 + " " + node[0] + (" _" if law == "by-over" else "")
+        body = f"rw add-one ({body})" if node[1] else body
+        stands = f"inside _ _ _ {node[2]}"
+    else:
+        stands = f"rw ({leaf[0]}) tt" if leaf else ""
+        leaf += [f"← {path}" + " .before" * pending + f" .{e[1:]}" for e in extra if e[0] == "^"]
+        leaf += [e.split(".")[-1] for e in extra if e[0] == "+"]
+        body = "simp (" + ", ".join(["add-one"] + leaf) + ")"
     for s in steps:
         body = f"{s} ({body})"
+    more = " ".join("_" * int(next(e for e in extra if e[0] == "~")[1:] or 0))
+    body = f"(λ {more}. {body})" if more else body
+    body = f"({body}, {stands})" if "=" in [e[0] for e in extra] else body
     return "(λ c.\n    " + "\n    ".join(lets + [body]) + ")"
 
 
@@ -191,8 +208,8 @@ def answer(need, place, own, needs, extra):
     if name.startswith("add-"):
         return inside(place, own, needs[need])
     if re.match(r"returns(-\d+)?$", name):
-        if "~" in extra:
-            return chained(place, own, needs, needs[need], [e for e in extra if e != "~"])
+        if any(e[0] == "~" for e in extra):
+            return chained(place, own, needs, needs[need], extra)
         lets, facts = way(place, own, needs, needs[need], extra)
         if not facts:
             return "(λ c. search needs)"
@@ -228,7 +245,7 @@ def write(crate, item):
     global FUNCTION
     function, _, listed_names = item.partition("=")
     names = [n for n in listed_names.split(",") if n]
-    extra = [n for n in names if n[0] in "+^~"]
+    extra = [n for n in names if n[0] in "+^~="]
     names = [n for n in names if n not in extra]
     FUNCTION = function
     own, place, needs, order = places(crate, function)
@@ -245,7 +262,7 @@ def write(crate, item):
     uses = ["use borrow.Author.Needs.{needs}"] if "search needs" in text else []
     uses += ["use native.Mathlib.Omega.{arith}", "use Rattle.records.proofs.TokenLaws.{inside}"] if "(inside" in text or " inside" in text else []
     laws = sorted(set(re.findall(r"by-[a-z]+|place-for", text)))
-    for module in ("By", "NodeLaws"):
+    for module in ("By", "PlanLaws", "NodeLaws"):
         text_of = open(f"{ROOT}/crates/{crate}/proofs/{module}.antt").read()
         there = [l for l in laws if f"pub {l} :" in text_of]
         uses += [f"use Rattle.{crate}.proofs.{module}.{{{', '.join(there)}}}"] if there else []

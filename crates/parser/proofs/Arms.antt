@@ -9,7 +9,7 @@ use lib.Dec.{eqb}
 use types.Run.{OneOf}
 use Rattle.rules.specs.Rules.Words.{oneOf}
 
-or-true : (a : Bool) → a || true ≡ true
+pub or-true : (a : Bool) → a || true ≡ true
 or-true true = refl
 or-true false = refl
 

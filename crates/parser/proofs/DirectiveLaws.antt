@@ -17,20 +17,18 @@ use Rattle.tables.specs.Tables.{entered}
 use Rattle.tables.specs.Handles.{named}
 use Rattle.tables.specs.declared.handles.Handle.{Handle}
 use Rattle.rules.specs.Lists.{in-bytes}
+use Rattle.rules.proofs.Sizes.{entered-size}
 use Rattle.rules.proofs.Granted.{declare-more}
 use Rattle.rules.specs.Rules.{declare, declare-read}
 use Rattle.rules.specs.Rules.Words as r
 use Rattle.rules.specs.Rules.Words.{if_then_else_, is, first, hit?}
 use Rattle.parser.specs.Machine.{Lent, given}
 use Rattle.parser.specs.Documents.{unset, told}
+use Rattle.parser.proofs.Arms.{or-true}
 
 or-false : (b : Bool) → b ≡ b || false
 or-false true = refl
 or-false false = refl
-
-or-true : (b : Bool) → b || true ≡ true
-or-true true = refl
-or-true false = refl
 
 or-assoc : (a b c : Bool) → (a || b) || c ≡ a || (b || c)
 or-assoc true b c = refl
@@ -77,17 +75,6 @@ entered-hit text name h (y ∷ ys) = go (sameName text (y .name) (h .name)) refl
       → hit? (first (named text name) (cond b (h ∷ ys) (y ∷ entered (named text (h .name)) h ys))) ≡ hit? (if sameName text (y .name) name then r.Got y else first (named text name) ys) || sameName text (h .name) name
   go true p ih = rw (alike text (y .name) (h .name) name p) (old (sameName text (h .name) name))
   go false p ih = new (sameName text (y .name) name) ih
-
-entered-length : (text : List ℕ) (h : Handle) (hs : List Handle)
-    → length (entered (named text (h .name)) h hs) ≡ (if hit? (first (named text (h .name)) hs) then length hs else suc (length hs))
-unfolding hit? first entered if_then_else_
-entered-length text h [] = refl
-entered-length text h (y ∷ ys) = go (named text (h .name) y) (hit? (first (named text (h .name)) ys)) refl (entered-length text h ys) where
-  go : (b c : Bool) → hit? (first (named text (h .name)) ys) ≡ c → length (entered (named text (h .name)) h ys) ≡ (if c then length ys else suc (length ys))
-      → length (cond b (h ∷ ys) (y ∷ entered (named text (h .name)) h ys)) ≡ (if hit? (if b then r.Got y else first (named text (h .name)) ys) then suc (length ys) else suc (suc (length ys)))
-  go true c q ih = refl
-  go false true q ih = rw q (ap suc ih)
-  go false false q ih = rw q (ap suc ih)
 
 module _ (tokens text : List ℕ) (name : Range) where
   read-hit : (r : Read) (hs : List Handle)
@@ -160,7 +147,7 @@ module _ (tokens text : List ℕ) (from i : ℕ) (hs : List Handle) (h : from �
   unfolding declare-read if_then_else_ unset in-bytes
   count-tag t e n o =
       rw (count-at, e, n)
-      (entered-length text (record { name = t .a; prefix = t .b }) (declare (unset tokens text) (i - from) from hs)
+      (entered-size (named text (t .a)) (record { name = t .a; prefix = t .b }) (declare (unset tokens text) (i - from) from hs)
       ∙ rw (either tokens text (t .a) from (i - from) hs, o))
 
   pub count-kept : (t : Token) → readAt tokens (length text) i ≡ read.Token t → is t r.TAG-DIRECTIVE ≡ true

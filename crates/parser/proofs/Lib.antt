@@ -1,6 +1,7 @@
 pub mod Arms
 pub mod NodeLaws
 pub mod By
+pub mod PlanLaws
 pub mod TagLaws
 pub mod DocumentLaws
 pub mod DirectiveLaws

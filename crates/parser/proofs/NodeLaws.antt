@@ -9,7 +9,10 @@ use lib.Dec.{ltb}
 use lib.ListN.{length}
 use Rattle.records.specs.Names.{part}
 use Rattle.records.specs.declared.names.Range.{Range}
+use Rattle.records.specs.Tokens.{readAt}
 use Rattle.records.specs.declared.tokens.Token.{Token}
+use Rattle.records.specs.declared.tokens.Read.{Read}
+use Rattle.records.specs.declared.tokens.Read.the-variants as read
 use Rattle.tables.specs.Tables.{table}
 use Rattle.tables.specs.Lookup.{find, leftmost, placeFor}
 use Rattle.tables.specs.Anchors as anchors
@@ -20,17 +23,21 @@ use Rattle.tables.specs.declared.lookup.Found.the-variants as found
 use Rattle.tables.proofs.AnchorLaws as anchor-laws
 use Rattle.tables.proofs.HandleLaws as handle-laws
 use Rattle.tables.proofs.TableLaws.{length-table}
+use Rattle.records.proofs.TokenLaws.{inside}
 use Rattle.rules.specs.Rules as rules
 use Rattle.rules.specs.Rules.Words as r
 use Rattle.rules.specs.Rules.Words.{if_then_else_, first, hit?, Hit, Miss, Got}
-use Rattle.rules.specs.Rules.{block-content, node, register-anchor, with-tag, tagged, resolve-tag, alias}
+use Rattle.rules.specs.Rules.{content, node-content, block-content, node, register-anchor, with-tag, tagged, resolve-tag, alias}
 use Rattle.rules.specs.Run.{Rooms, limit, room, short}
 use Rattle.parser.specs.Machine.{Lent, given, small, rooms}
-use Rattle.parser.specs.Answers.{answer, refusing, moved, namesAfter, handlesAfter}
-use Rattle.parser.specs.Nodes.{named-answer, placed, placeOf, knownOf}
+use Rattle.parser.specs.Answers.{answer, refusing, refusedBy, moved, namesAfter, handlesAfter}
+use Rattle.parser.specs.Nodes.{namesOf, propertiesOf, named-answer, placed, placeOf, knownOf, behindOf, behind, Follows}
 use Rattle.parser.specs.Tags.{resolvedOf}
 use Rattle.parser.specs.declared.Machine.{Machine}
 use Rattle.parser.specs.declared.Step.{Step}
+use Rattle.parser.specs.declared.node.Properties.{Properties}
+use Rattle.parser.specs.declared.node.Behind.{Behind}
+use Rattle.parser.specs.declared.node.Behind.the-variants as b
 use Rattle.parser.specs.declared.node.Place.{Place}
 use Rattle.parser.specs.declared.node.Place.the-variants as place
 use Rattle.parser.specs.declared.node.Known.{Known}
@@ -108,6 +115,14 @@ placed-full found.Nothing n room e = go (ltb n room) refl e where
   go true h e = let z : _≡_ {A = ℕ} 0 1 = cc in absurd (omega arith)
   go false h e = record { new = refl; full = ltb-false n room h }
 
+-- what stands behind properties stands in the list
+pub by-follows : (tokens : List ℕ) (size at : ℕ) (q : Properties) {z : Behind} → z ≡ behindOf (readAt tokens size at) at q → Follows tokens z
+unfolding behindOf
+by-follows tokens size at q f = rw f (go (readAt tokens size at) refl) where
+  go : (y : Read) → readAt tokens size at ≡ y → Follows tokens (behindOf y at q)
+  go (read.Token t) e = inside tokens size at refl e
+  go (read.Refused y) e = tt
+
 module _ (x : Lent) (m : Machine) (w : Rooms) where
   either : (t : Bool) (d e : r.Decision) (names : r.Names)
       → answer x m (limit w d) ≡ named-answer m (namesAfter x m names) d
@@ -118,12 +133,34 @@ module _ (x : Lent) (m : Machine) (w : Rooms) where
   either false d e names p q = q
 
   -- a content that wants nothing passes its names on
-  pub content-names : (at : ℕ) (over : rules.Over) (block : Bool) (p : rules.Properties) (t : Token)
-      → answer x m (limit w (block-content at over block p t)) ≡ named-answer m (namesAfter x m (p .names)) (block-content at over block p t)
-  unfolding block-content node answer limit named-answer moved handlesAfter
-  content-names at over block p t =
-      either (block && r.is t r.BLOCK-SEQUENCE-START) _ _ (p .names) refl
-      (either (block && r.is t r.BLOCK-MAPPING-START) _ _ (p .names) refl (either (p .any) _ _ (p .names) refl refl))
+  content-names : (at : ℕ) (over : rules.Over) (block indentless : Bool) (p : rules.Properties) (t : Token)
+      → answer x m (limit w (content at over block indentless p t))
+      ≡ named-answer m (namesAfter x m (p .names)) (content at over block indentless p t)
+  unfolding content block-content node answer limit named-answer moved handlesAfter
+  content-names at over block indentless p t =
+      either (indentless && r.is t r.BLOCK-ENTRY) _ _ (p .names) refl
+      (either (r.is t r.SCALAR) _ _ (p .names) refl
+      (either (r.is t r.FLOW-SEQUENCE-START) _ _ (p .names) refl
+      (either (r.is t r.FLOW-MAPPING-START) _ _ (p .names) refl
+      (either (block && r.is t r.BLOCK-SEQUENCE-START) _ _ (p .names) refl
+      (either (block && r.is t r.BLOCK-MAPPING-START) _ _ (p .names) refl (either (p .any) _ _ (p .names) refl refl))))))
+
+  -- behind its properties a node comes to what its content decides
+  module _ (over : rules.Over) (block indentless : Bool) (at : ℕ) (q : Properties) (e : q .names ≡ namesAfter x m (namesOf (q .names))) where
+    pub by-content : (t : Token) → behind m over block indentless (b.Content at t q)
+        ≡ answer x m (limit w (content at over block indentless (propertiesOf q) t))
+    unfolding behind propertiesOf
+    by-content t =
+        ap (λ n. named-answer m n (content at over block indentless (propertiesOf q) t)) e ∙ sym (content-names at over block indentless (propertiesOf q) t)
+
+    pub by-behind : {z : Behind} → z ≡ behindOf (readAt (x .tokens) (length (x .text)) at) at q
+        → behind m over block indentless z ≡ answer x m (limit w (node-content (given x) at over block indentless (propertiesOf q)))
+    unfolding node-content r.look r.seen given behind behindOf refusedBy answer limit refusing
+    by-behind {z} f = rw f (go (readAt (x .tokens) (length (x .text)) at)) where
+      go : (y : Read) → behind m over block indentless (behindOf y at q)
+          ≡ answer x m (limit w (r.seen y (content at over block indentless (propertiesOf q))))
+      go (read.Token t) = by-content t
+      go (read.Refused y) = refl
 
   -- a tag that was resolved, and one that was not
   module _ (a : Step) (p : rules.Properties) (t : Token) (k : rules.Properties → r.Decision) {q : Resolved}

@@ -1,10 +1,14 @@
 -- The properties of a node, as the code hands them on.
-use Prim.Native.Nat.{ℕ}
-use mathlib.Core.Bool.{true, false}
+use Prim.Native.Nat.{ℕ, _<_}
+use mathlib.Core.Path.{_≡_}
+use mathlib.Core.Bool.{Bool, true, false}
 use mathlib.Core.List.{List}
 use lib.Dec.{ltb}
+use Rattle.places.specs.Places.{places}
 use Rattle.records.specs.declared.names.Range.{Range}
 use Rattle.records.specs.declared.tokens.Token.{Token}
+use Rattle.records.specs.declared.tokens.Read.{Read}
+use Rattle.records.specs.declared.tokens.Read.the-variants as read
 use Rattle.records.specs.declared.events.Event.{Event}
 use Rattle.tables.specs.Lookup.{find}
 use Rattle.tables.specs.declared.anchors.Anchor.{Anchor}
@@ -12,13 +16,16 @@ use Rattle.tables.specs.declared.lookup.Found.{Found}
 use Rattle.tables.specs.declared.lookup.Found.the-variants as found
 use Rattle.rules.specs.Rules as rules
 use Rattle.rules.specs.Rules.Words as r
-use Rattle.parser.specs.Answers.{moved, refusing}
+use Rattle.parser.specs.Machine.{Lent}
+use Rattle.parser.specs.Answers.{moved, refusing, refusedBy, decided}
 use Rattle.parser.specs.declared.Machine.{Machine}
 use Rattle.parser.specs.declared.Names.{Names}
 use Rattle.parser.specs.declared.Names.the-variants as n
 use Rattle.parser.specs.declared.Step.{Step}
 use Rattle.parser.specs.declared.Step.the-variants as st
 use Rattle.parser.specs.declared.node.Properties.{Properties}
+use Rattle.parser.specs.declared.node.Behind.{Behind}
+use Rattle.parser.specs.declared.node.Behind.the-variants as b
 use Rattle.parser.specs.declared.node.Known.{Known}
 use Rattle.parser.specs.declared.node.Known.the-variants as k
 use Rattle.parser.specs.declared.node.Place.{Place}
@@ -72,3 +79,25 @@ named-answer m names (r.Next c) = moved m (c .at) (c .move) (c .event) names
 named-answer m names (r.Refused number place) = refusing number place
 named-answer m names r.Unreachable = st.Stuck
 named-answer m names (r.Wants q n d) = st.Stuck
+
+-- the token at `at` behind properties
+unfoldable pub behindOf : Read → ℕ → Properties → Behind
+behindOf (read.Token t) at q = b.Content at t q
+behindOf (read.Refused e) at q = b.Done (refusedBy (read.Refused e))
+
+-- the step that a node comes to behind its properties
+unfoldable pub behind : Machine → rules.Over → Bool → Bool → Behind → Step
+behind m over block indentless (b.Content at t q) =
+    named-answer m (q .names) (rules.content at over block indentless (propertiesOf q) t)
+behind m over block indentless (b.Done step) = step
+
+-- a content stands in the list
+abbrev pub Follows : List ℕ → Behind → Type 0
+Follows tokens (b.Content at t q) = at < places tokens 32
+Follows tokens (b.Done step) = Unit
+
+-- what stands behind the properties comes to what the rule decides, whatever the node stands over
+abbrev pub Behinds : Lent → Machine → (rules.Over → Bool → Bool → r.Given → r.Small → r.Decision) → Behind → Type 0
+Behinds x m rule w =
+    ((over : rules.Over) (block indentless : Bool) → behind m over block indentless w ≡ decided x m (rule over block indentless))
+    × Follows (x .tokens) w

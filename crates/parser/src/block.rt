@@ -1,11 +1,10 @@
 // The block states.
-ghost use mathlib.Core.Path.{_≡_};
-ghost use Rattle.rules.specs.Rules.{block-sequence-entry, block-sequence-at, indentless-sequence-entry, block-mapping-key, block-mapping-at, block-mapping-value};
-ghost use Rattle.parser.specs.Machine.{lent};
-ghost use Rattle.parser.specs.Answers.{decided};
+ghost use mathlib.Core.Bool.{true, false};
+ghost use Rattle.rules.specs.Rules.{Here, parse-node, block-sequence-entry, indentless-sequence-entry, block-mapping-key, block-mapping-value};
+ghost use Rattle.parser.specs.Plans.{Plans};
 use crate::Machine;
-use crate::Step;
-use crate::Terms;
+use crate::Over;
+use crate::Plan;
 use crate::kinds;
 use records::events::Event;
 use records::tokens;
@@ -14,42 +13,24 @@ use records::tokens::Token;
 use rules::State;
 
 impl Machine {
-    pub(crate) fn block_sequence_entry(
-        self,
-        tokens: &[u8],
-        text: &[u8],
-        names: &[u8],
-        tags: &[u8],
-        terms: Terms,
-        first: bool,
-    ) -> Step
-        ensures { λ r. ⌜ r ≡ decided (lent (now (tokens .entry)) (now (text .entry)) (now (names .entry)) (now (tags .entry)) terms) self (λ g m. block-sequence-entry g m first) ⌝ }
+    pub(crate) fn block_node(self, tokens: &[u8], text: &[u8]) -> Plan
+        ensures { λ r. ⌜ Plans (now (tokens .entry)) (now (text .entry)) self (λ g m. parse-node g m (m .at) Here true false) r ⌝ }
     {
         let at = self.at;
-        if first {
-            let read = tokens::read_token(tokens, text, at);
-            let Read::Token(_) = read else {
-                return crate::refused(read);
-            };
-            return self.block_sequence_at(tokens, text, names, tags, terms, at + 1);
-        }
-        self.block_sequence_at(tokens, text, names, tags, terms, at)
-    }
-
-    fn block_sequence_at(
-        self,
-        tokens: &[u8],
-        text: &[u8],
-        names: &[u8],
-        tags: &[u8],
-        terms: Terms,
-        at: usize,
-    ) -> Step
-        ensures { λ r. ⌜ r ≡ decided (lent (now (tokens .entry)) (now (text .entry)) (now (names .entry)) (now (tags .entry)) terms) self (λ g m. block-sequence-at g m at) ⌝ }
-    {
         let read = tokens::read_token(tokens, text, at);
         let Read::Token(t) = read else {
-            return crate::refused(read);
+            return crate::declined(read);
+        };
+        Plan::Node(at, t, Over::Here, true, false)
+    }
+
+    pub(crate) fn block_sequence_entry(self, tokens: &[u8], text: &[u8], first: bool) -> Plan
+        ensures { λ r. ⌜ Plans (now (tokens .entry)) (now (text .entry)) self (λ g m. block-sequence-entry g m first) r ⌝ }
+    {
+        let at = crate::skip_first(tokens, text, self.at, first);
+        let read = tokens::read_token(tokens, text, at);
+        let Read::Token(t) = read else {
+            return crate::declined(read);
         };
         if t.kind == Token::BLOCK_END {
             return self.pop(at + 1, crate::plain(Event::SEQUENCE_END, t.start, t.end, 0));
@@ -58,58 +39,37 @@ impl Machine {
             let next = at + 1;
             let ahead = tokens::read_token(tokens, text, next);
             let Read::Token(u) = ahead else {
-                return crate::refused(ahead);
+                return crate::declined(ahead);
             };
             if kinds::ends_entry(u.kind) {
                 return self.give(next, State::BlockSequenceEntry, crate::empty_scalar(t));
             }
-            return self.parse_node_over(
-                tokens,
-                text,
-                names,
-                tags,
-                terms,
-                next,
-                State::BlockSequenceEntry,
-                true,
-                false,
-            );
+            return Plan::Node(next, u, Over::Above(State::BlockSequenceEntry), true, false);
         }
-        crate::refuse(12, t.start)
+        crate::decline(12, t.start)
     }
 
-    pub(crate) fn indentless_sequence_entry(
-        self,
-        tokens: &[u8],
-        text: &[u8],
-        names: &[u8],
-        tags: &[u8],
-        terms: Terms,
-    ) -> Step
-        ensures { λ r. ⌜ r ≡ decided (lent (now (tokens .entry)) (now (text .entry)) (now (names .entry)) (now (tags .entry)) terms) self indentless-sequence-entry ⌝ }
+    pub(crate) fn indentless_sequence_entry(self, tokens: &[u8], text: &[u8]) -> Plan
+        ensures { λ r. ⌜ Plans (now (tokens .entry)) (now (text .entry)) self indentless-sequence-entry r ⌝ }
     {
         let at = self.at;
         let read = tokens::read_token(tokens, text, at);
         let Read::Token(t) = read else {
-            return crate::refused(read);
+            return crate::declined(read);
         };
         if t.kind == Token::BLOCK_ENTRY {
             let next = at + 1;
             let ahead = tokens::read_token(tokens, text, next);
             let Read::Token(u) = ahead else {
-                return crate::refused(ahead);
+                return crate::declined(ahead);
             };
             if kinds::ends_indentless(u.kind) {
                 return self.give(next, State::IndentlessSequenceEntry, crate::empty_scalar(t));
             }
-            return self.parse_node_over(
-                tokens,
-                text,
-                names,
-                tags,
-                terms,
+            return Plan::Node(
                 next,
-                State::IndentlessSequenceEntry,
+                u,
+                Over::Above(State::IndentlessSequenceEntry),
                 true,
                 false,
             );
@@ -117,63 +77,24 @@ impl Machine {
         self.pop(at, crate::plain(Event::SEQUENCE_END, t.start, t.end, 0))
     }
 
-    pub(crate) fn block_mapping_key(
-        self,
-        tokens: &[u8],
-        text: &[u8],
-        names: &[u8],
-        tags: &[u8],
-        terms: Terms,
-        first: bool,
-    ) -> Step
-        ensures { λ r. ⌜ r ≡ decided (lent (now (tokens .entry)) (now (text .entry)) (now (names .entry)) (now (tags .entry)) terms) self (λ g m. block-mapping-key g m first) ⌝ }
+    pub(crate) fn block_mapping_key(self, tokens: &[u8], text: &[u8], first: bool) -> Plan
+        ensures { λ r. ⌜ Plans (now (tokens .entry)) (now (text .entry)) self (λ g m. block-mapping-key g m first) r ⌝ }
     {
-        let at = self.at;
-        if first {
-            let read = tokens::read_token(tokens, text, at);
-            let Read::Token(_) = read else {
-                return crate::refused(read);
-            };
-            return self.block_mapping_at(tokens, text, names, tags, terms, at + 1);
-        }
-        self.block_mapping_at(tokens, text, names, tags, terms, at)
-    }
-
-    fn block_mapping_at(
-        self,
-        tokens: &[u8],
-        text: &[u8],
-        names: &[u8],
-        tags: &[u8],
-        terms: Terms,
-        at: usize,
-    ) -> Step
-        ensures { λ r. ⌜ r ≡ decided (lent (now (tokens .entry)) (now (text .entry)) (now (names .entry)) (now (tags .entry)) terms) self (λ g m. block-mapping-at g m at) ⌝ }
-    {
+        let at = crate::skip_first(tokens, text, self.at, first);
         let read = tokens::read_token(tokens, text, at);
         let Read::Token(t) = read else {
-            return crate::refused(read);
+            return crate::declined(read);
         };
         if t.kind == Token::KEY {
             let next = at + 1;
             let ahead = tokens::read_token(tokens, text, next);
             let Read::Token(u) = ahead else {
-                return crate::refused(ahead);
+                return crate::declined(ahead);
             };
             if kinds::ends_pair(u.kind) {
                 return self.give(next, State::BlockMappingValue, crate::empty_scalar(u));
             }
-            return self.parse_node_over(
-                tokens,
-                text,
-                names,
-                tags,
-                terms,
-                next,
-                State::BlockMappingValue,
-                true,
-                true,
-            );
+            return Plan::Node(next, u, Over::Above(State::BlockMappingValue), true, true);
         }
         if t.kind == Token::VALUE {
             return self.give(at, State::BlockMappingValue, crate::empty_scalar(t));
@@ -181,44 +102,27 @@ impl Machine {
         if t.kind == Token::BLOCK_END {
             return self.pop(at + 1, crate::plain(Event::MAPPING_END, t.start, t.end, 0));
         }
-        crate::refuse(9, t.start)
+        crate::decline(9, t.start)
     }
 
-    pub(crate) fn block_mapping_value(
-        self,
-        tokens: &[u8],
-        text: &[u8],
-        names: &[u8],
-        tags: &[u8],
-        terms: Terms,
-    ) -> Step
-        ensures { λ r. ⌜ r ≡ decided (lent (now (tokens .entry)) (now (text .entry)) (now (names .entry)) (now (tags .entry)) terms) self block-mapping-value ⌝ }
+    pub(crate) fn block_mapping_value(self, tokens: &[u8], text: &[u8]) -> Plan
+        ensures { λ r. ⌜ Plans (now (tokens .entry)) (now (text .entry)) self block-mapping-value r ⌝ }
     {
         let at = self.at;
         let read = tokens::read_token(tokens, text, at);
         let Read::Token(t) = read else {
-            return crate::refused(read);
+            return crate::declined(read);
         };
         if t.kind == Token::VALUE {
             let next = at + 1;
             let ahead = tokens::read_token(tokens, text, next);
             let Read::Token(u) = ahead else {
-                return crate::refused(ahead);
+                return crate::declined(ahead);
             };
             if kinds::ends_pair(u.kind) {
                 return self.give(next, State::BlockMappingKey, crate::empty_scalar(t));
             }
-            return self.parse_node_over(
-                tokens,
-                text,
-                names,
-                tags,
-                terms,
-                next,
-                State::BlockMappingKey,
-                true,
-                true,
-            );
+            return Plan::Node(next, u, Over::Above(State::BlockMappingKey), true, true);
         }
         self.give(at, State::BlockMappingKey, crate::empty_scalar(t))
     }

@@ -9,12 +9,14 @@ ghost use Rattle.rules.specs.Rules.Words.{if_then_else_};
 ghost use Rattle.rules.specs.Rules.{stream-start, passes, past, document-start, document-start-at, after-directives, document, document-content, document-end, after-marks, document-end-at, document-ends};
 ghost use Rattle.parser.specs.Machine.{lent};
 ghost use Rattle.parser.specs.Answers.{decided};
+ghost use Rattle.parser.specs.Plans.{Planned, Plans};
 ghost use Rattle.parser.specs.Documents.{unset, marks, tagsOf};
 use crate::Handles;
 use crate::Machine;
 use crate::Names;
 use crate::Open;
 use crate::Over;
+use crate::Plan;
 use crate::Step;
 use crate::Terms;
 use crate::kinds;
@@ -61,26 +63,19 @@ fn cleared(keep: bool) -> Handles
 }
 
 impl Machine {
-    pub(crate) fn stream_start(
-        self,
-        tokens: &[u8],
-        text: &[u8],
-        names: &[u8],
-        tags: &[u8],
-        terms: Terms,
-    ) -> Step
-        ensures { λ r. ⌜ r ≡ decided (lent (now (tokens .entry)) (now (text .entry)) (now (names .entry)) (now (tags .entry)) terms) self stream-start ⌝ }
+    pub(crate) fn stream_start(self, tokens: &[u8], text: &[u8]) -> Plan
+        ensures { λ r. ⌜ Plans (now (tokens .entry)) (now (text .entry)) self stream-start r ⌝ }
     {
         let at = self.at;
         let read = tokens::read_token(tokens, text, at);
         let Read::Token(t) = read else {
-            return crate::refused(read);
+            return crate::declined(read);
         };
         if t.kind == Token::STREAM_START {
             let event = crate::plain(Event::STREAM_START, t.start, t.end, 0);
             return self.give(at + 1, State::ImplicitDocumentStart, event);
         }
-        crate::refuse(1, t.start)
+        crate::decline(1, t.start)
     }
 
     pub(crate) fn document_start(
@@ -91,8 +86,8 @@ impl Machine {
         tags: &[u8],
         terms: Terms,
         implicit: bool,
-    ) -> Step
-        ensures { λ r. ⌜ r ≡ decided (lent (now (tokens .entry)) (now (text .entry)) (now (names .entry)) (now (tags .entry)) terms) self (λ g m. document-start g m implicit) ⌝ }
+    ) -> Plan
+        ensures { λ r. ⌜ Planned (lent (now (tokens .entry)) (now (text .entry)) (now (names .entry)) (now (tags .entry)) terms) self (λ g m. document-start g m implicit) r ⌝ }
     {
         let at = past(tokens, text, self.at, true);
         self.document_start_at(tokens, text, names, tags, terms, implicit, at)
@@ -107,24 +102,27 @@ impl Machine {
         terms: Terms,
         implicit: bool,
         at: usize,
-    ) -> Step
-        ensures { λ r. ⌜ r ≡ decided (lent (now (tokens .entry)) (now (text .entry)) (now (names .entry)) (now (tags .entry)) terms) self (λ g m. document-start-at g m implicit at) ⌝ }
+    ) -> Plan
+        ensures { λ r. ⌜ Planned (lent (now (tokens .entry)) (now (text .entry)) (now (names .entry)) (now (tags .entry)) terms) self (λ g m. document-start-at g m implicit at) r ⌝ }
     {
         let read = tokens::read_token(tokens, text, at);
         let Read::Token(t) = read else {
-            return crate::refused(read);
+            return crate::declined(read);
         };
         if t.kind == Token::STREAM_END {
             let event = crate::plain(Event::STREAM_END, t.start, t.end, 0);
             return self.give(at + 1, State::End, event);
         }
         if kinds::opens_document(t.kind) {
-            return self.explicit_document_start(tokens, text, names, tags, terms, at);
+            let step = self.explicit_document_start(tokens, text, names, tags, terms, at);
+            return Plan::Done(step);
         }
         if implicit {
-            return self.document(terms, at, t, 0, State::BlockNode, Handles::Keep);
+            let step = self.document(terms, at, t, 0, State::BlockNode, Handles::Keep);
+            return Plan::Done(step);
         }
-        self.explicit_document_start(tokens, text, names, tags, terms, at)
+        let step = self.explicit_document_start(tokens, text, names, tags, terms, at);
+        Plan::Done(step)
     }
 
     pub(crate) fn after_directives(
@@ -174,35 +172,18 @@ impl Machine {
         crate::refuse(23, 0)
     }
 
-    pub(crate) fn document_content(
-        self,
-        tokens: &[u8],
-        text: &[u8],
-        names: &[u8],
-        tags: &[u8],
-        terms: Terms,
-    ) -> Step
-        ensures { λ r. ⌜ r ≡ decided (lent (now (tokens .entry)) (now (text .entry)) (now (names .entry)) (now (tags .entry)) terms) self document-content ⌝ }
+    pub(crate) fn document_content(self, tokens: &[u8], text: &[u8]) -> Plan
+        ensures { λ r. ⌜ Plans (now (tokens .entry)) (now (text .entry)) self document-content r ⌝ }
     {
         let at = self.at;
         let read = tokens::read_token(tokens, text, at);
         let Read::Token(t) = read else {
-            return crate::refused(read);
+            return crate::declined(read);
         };
         if kinds::no_content(t.kind) {
             return self.pop(at, crate::empty_scalar(t));
         }
-        self.parse_node(
-            tokens,
-            text,
-            names,
-            tags,
-            terms,
-            at,
-            Over::Here,
-            true,
-            false,
-        )
+        Plan::Node(at, t, Over::Here, true, false)
     }
 
     pub(crate) fn document_end(
@@ -212,19 +193,20 @@ impl Machine {
         names: &[u8],
         tags: &[u8],
         terms: Terms,
-    ) -> Step
-        ensures { λ r. ⌜ r ≡ decided (lent (now (tokens .entry)) (now (text .entry)) (now (names .entry)) (now (tags .entry)) terms) self document-end ⌝ }
+    ) -> Plan
+        ensures { λ r. ⌜ Planned (lent (now (tokens .entry)) (now (text .entry)) (now (names .entry)) (now (tags .entry)) terms) self document-end r ⌝ }
     {
         let at = self.at;
         let read = tokens::read_token(tokens, text, at);
         let Read::Token(t) = read else {
-            return crate::refused(read);
+            return crate::declined(read);
         };
         if t.kind == Token::BYTE_ORDER_MARK {
             let next = past(tokens, text, at, false);
-            return self.after_marks(tokens, text, names, tags, terms, t.start, next);
+            let step = self.after_marks(tokens, text, names, tags, terms, t.start, next);
+            return Plan::Done(step);
         }
-        self.document_end_at(tokens, text, names, tags, terms, at)
+        Plan::Done(self.document_end_at(tokens, text, names, tags, terms, at))
     }
 
     // Behind a run of byte order marks, the first of which starts at `place`.

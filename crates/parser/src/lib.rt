@@ -2,9 +2,12 @@
 // step only decides; what is to change in the lent places is part of its answer.
 ghost use mathlib.Core.Path.{_≡_};
 ghost use Rattle.rules.specs.Rules.Words.{plain, empty-scalar, no-tag};
+ghost use lib.ListN.{length};
+ghost use Rattle.records.specs.Tokens.{readAt};
 ghost use Rattle.rules.specs.Rules.{into, pop-state, state-machine};
 ghost use Rattle.parser.specs.Machine.{fresh, lent};
 ghost use Rattle.parser.specs.Answers.{refusing, refusedBy, goes, next, moved, overOf, decided};
+ghost use Rattle.parser.specs.Plans.{Planned, turnOf, behindFirst, isFull};
 
 mod block;
 mod directives;
@@ -17,6 +20,7 @@ mod tag;
 use records::events::Event;
 use records::events::Tag;
 use records::names;
+use records::tokens;
 use records::tokens::Read;
 use records::tokens::Refusal;
 use records::tokens::Token;
@@ -86,6 +90,63 @@ pub enum Over {
     Above(State),
 }
 
+// What a state decides.
+enum Plan {
+    Done(Step),
+    // A node is parsed: its place and first token, what it stands over, whether it stands in a block, and whether
+    // its content may be a sequence without indent.
+    Node(usize, Token, Over, bool, bool),
+}
+
+// What each state calls, with its flag.
+enum Turn {
+    StreamStart,
+    DocumentStart(bool),
+    DocumentContent,
+    DocumentEnd,
+    BlockNode,
+    BlockSequenceEntry(bool),
+    IndentlessSequenceEntry,
+    BlockMappingKey(bool),
+    BlockMappingValue,
+    FlowSequenceEntry(bool),
+    FlowSequenceEntryMappingKey,
+    FlowSequenceEntryMappingValue,
+    FlowSequenceEntryMappingEnd(u32),
+    FlowMappingKey(bool),
+    FlowMappingValue(bool),
+    End,
+}
+
+fn turn_of(state: State) -> Turn
+    ensures { λ r. ⌜ r ≡ turnOf state ⌝ }
+{
+    match state {
+        State::StreamStart => Turn::StreamStart,
+        State::ImplicitDocumentStart => Turn::DocumentStart(true),
+        State::DocumentStart => Turn::DocumentStart(false),
+        State::DocumentContent => Turn::DocumentContent,
+        State::DocumentEnd => Turn::DocumentEnd,
+        State::BlockNode => Turn::BlockNode,
+        State::BlockSequenceFirstEntry => Turn::BlockSequenceEntry(true),
+        State::BlockSequenceEntry => Turn::BlockSequenceEntry(false),
+        State::IndentlessSequenceEntry => Turn::IndentlessSequenceEntry,
+        State::BlockMappingFirstKey => Turn::BlockMappingKey(true),
+        State::BlockMappingKey => Turn::BlockMappingKey(false),
+        State::BlockMappingValue => Turn::BlockMappingValue,
+        State::FlowSequenceFirstEntry => Turn::FlowSequenceEntry(true),
+        State::FlowSequenceEntry => Turn::FlowSequenceEntry(false),
+        State::FlowSequenceEntryMappingKey => Turn::FlowSequenceEntryMappingKey,
+        State::FlowSequenceEntryMappingValue => Turn::FlowSequenceEntryMappingValue,
+        State::FlowSequenceEntryMappingEnd(mark) => Turn::FlowSequenceEntryMappingEnd(mark),
+        State::FlowMappingFirstKey => Turn::FlowMappingKey(true),
+        State::FlowMappingKey => Turn::FlowMappingKey(false),
+        State::FlowMappingValue => Turn::FlowMappingValue(false),
+        State::FlowMappingEmptyValue => Turn::FlowMappingValue(true),
+        State::End => Turn::End,
+    }
+}
+
 fn refuse(number: u32, place: u32) -> Step
     ensures { λ r. ⌜ r ≡ refusing number place ⌝ }
 {
@@ -100,6 +161,33 @@ fn refused(read: Read) -> Step
         Read::Refused(e) => Step::Refused(e),
         Read::Token(_) => Step::Stuck,
     }
+}
+
+// The same as plans.
+fn decline(number: u32, place: u32) -> Plan
+    ensures { λ r. ⌜ r ≡ Plan.Done (refusing number place) ⌝ }
+{
+    Plan::Done(refuse(number, place))
+}
+
+fn declined(read: Read) -> Plan
+    ensures { λ r. ⌜ r ≡ Plan.Done (refusedBy read) ⌝ }
+{
+    Plan::Done(refused(read))
+}
+
+// Behind the token that a First state takes. A bad one is not taken: it is refused when it is read.
+fn skip_first(tokens: &[u8], text: &[u8], at: usize, first: bool) -> usize
+    ensures { λ r. ⌜ r ≡ behindFirst first (readAt (now (tokens .entry)) (length (now (text .entry))) at) at ⌝ }
+{
+    if first {
+        let read = tokens::read_token(tokens, text, at);
+        let Read::Token(_) = read else {
+            return at;
+        };
+        return at + 1;
+    }
+    at
 }
 
 // No tag.
@@ -154,135 +242,66 @@ impl Machine {
     pub fn step(self, tokens: &[u8], text: &[u8], names: &[u8], tags: &[u8], terms: Terms) -> Step
         ensures { λ r. ⌜ r ≡ decided (lent (now (tokens .entry)) (now (text .entry)) (now (names .entry)) (now (tags .entry)) terms) self (λ g m. state-machine g m (m .state)) ⌝ }
     {
+        let plan = self.plan(tokens, text, names, tags, terms);
+        match plan {
+            Plan::Node(at, t, over, block, indentless) => {
+                if self.is_full(over, terms) {
+                    return refuse(23, 0);
+                }
+                self.parse_node(
+                    tokens,
+                    text,
+                    names,
+                    tags,
+                    terms,
+                    at,
+                    t,
+                    over,
+                    block,
+                    indentless,
+                )
+            }
+            Plan::Done(step) => step,
+        }
+    }
+
+    // Whether there is no place for the state that a node stands over.
+    fn is_full(self, over: Over, terms: Terms) -> bool
+        ensures { λ r. ⌜ r ≡ isFull (self .depth) (terms .states) over ⌝ }
+    {
+        match over {
+            Over::Here => false,
+            Over::Above(_) => self.depth >= terms.states,
+        }
+    }
+
+    // state_machine, but for the nodes.
+    fn plan(self, tokens: &[u8], text: &[u8], names: &[u8], tags: &[u8], terms: Terms) -> Plan
+        ensures { λ r. ⌜ Planned (lent (now (tokens .entry)) (now (text .entry)) (now (names .entry)) (now (tags .entry)) terms) self (λ g m. state-machine g m (m .state)) r ⌝ }
+    {
         let state = self.state;
-        match state {
-            State::StreamStart => self.stream_start(tokens, text, names, tags, terms),
-            State::ImplicitDocumentStart => self.document_start(
-                tokens,
-                text,
-                names,
-                tags,
-                terms,
-                true,
-            ),
-            State::DocumentStart => self.document_start(tokens, text, names, tags, terms, false),
-            State::DocumentContent => self.document_content(tokens, text, names, tags, terms),
-            State::DocumentEnd => self.document_end(tokens, text, names, tags, terms),
-            State::BlockNode => self.parse_node(
-                tokens,
-                text,
-                names,
-                tags,
-                terms,
-                self.at,
-                Over::Here,
-                true,
-                false,
-            ),
-            State::BlockSequenceFirstEntry => self.block_sequence_entry(
-                tokens,
-                text,
-                names,
-                tags,
-                terms,
-                true,
-            ),
-            State::BlockSequenceEntry => self.block_sequence_entry(
-                tokens,
-                text,
-                names,
-                tags,
-                terms,
-                false,
-            ),
-            State::IndentlessSequenceEntry => self.indentless_sequence_entry(
-                tokens,
-                text,
-                names,
-                tags,
-                terms,
-            ),
-            State::BlockMappingFirstKey => self.block_mapping_key(
-                tokens,
-                text,
-                names,
-                tags,
-                terms,
-                true,
-            ),
-            State::BlockMappingKey => self.block_mapping_key(
-                tokens,
-                text,
-                names,
-                tags,
-                terms,
-                false,
-            ),
-            State::BlockMappingValue => self.block_mapping_value(tokens, text, names, tags, terms),
-            State::FlowSequenceFirstEntry => self.flow_sequence_entry(
-                tokens,
-                text,
-                names,
-                tags,
-                terms,
-                true,
-            ),
-            State::FlowSequenceEntry => self.flow_sequence_entry(
-                tokens,
-                text,
-                names,
-                tags,
-                terms,
-                false,
-            ),
-            State::FlowSequenceEntryMappingKey => self.flow_sequence_entry_mapping_key(
-                tokens,
-                text,
-                names,
-                tags,
-                terms,
-            ),
-            State::FlowSequenceEntryMappingValue => self.flow_sequence_entry_mapping_value(
-                tokens,
-                text,
-                names,
-                tags,
-                terms,
-            ),
-            State::FlowSequenceEntryMappingEnd(mark) => self.flow_sequence_entry_mapping_end(
-                tokens,
-                text,
-                names,
-                tags,
-                terms,
-                mark,
-            ),
-            State::FlowMappingFirstKey => self.flow_mapping_key(
-                tokens,
-                text,
-                names,
-                tags,
-                terms,
-                true,
-            ),
-            State::FlowMappingKey => self.flow_mapping_key(tokens, text, names, tags, terms, false),
-            State::FlowMappingValue => self.flow_mapping_value(
-                tokens,
-                text,
-                names,
-                tags,
-                terms,
-                false,
-            ),
-            State::FlowMappingEmptyValue => self.flow_mapping_value(
-                tokens,
-                text,
-                names,
-                tags,
-                terms,
-                true,
-            ),
-            State::End => Step::Stuck,
+        let turn = turn_of(state);
+        match turn {
+            Turn::StreamStart => self.stream_start(tokens, text),
+            Turn::DocumentStart(implicit) => {
+                self.document_start(tokens, text, names, tags, terms, implicit)
+            }
+            Turn::DocumentContent => self.document_content(tokens, text),
+            Turn::DocumentEnd => self.document_end(tokens, text, names, tags, terms),
+            Turn::BlockNode => self.block_node(tokens, text),
+            Turn::BlockSequenceEntry(first) => self.block_sequence_entry(tokens, text, first),
+            Turn::IndentlessSequenceEntry => self.indentless_sequence_entry(tokens, text),
+            Turn::BlockMappingKey(first) => self.block_mapping_key(tokens, text, first),
+            Turn::BlockMappingValue => self.block_mapping_value(tokens, text),
+            Turn::FlowSequenceEntry(first) => self.flow_sequence_entry(tokens, text, first),
+            Turn::FlowSequenceEntryMappingKey => self.flow_sequence_entry_mapping_key(tokens, text),
+            Turn::FlowSequenceEntryMappingValue => {
+                self.flow_sequence_entry_mapping_value(tokens, text)
+            }
+            Turn::FlowSequenceEntryMappingEnd(mark) => self.flow_sequence_entry_mapping_end(mark),
+            Turn::FlowMappingKey(first) => self.flow_mapping_key(tokens, text, first),
+            Turn::FlowMappingValue(empty) => self.flow_mapping_value(tokens, text, empty),
+            Turn::End => Plan::Done(Step::Stuck),
         }
     }
 
@@ -314,20 +333,20 @@ impl Machine {
     }
 
     // Goes to a state with an event.
-    fn give(self, at: usize, state: State, event: Event) -> Step
-        ensures { λ r. ⌜ r ≡ next (goes self at state) event Open.Keep Names.Keep Handles.Keep ⌝ }
+    fn give(self, at: usize, state: State, event: Event) -> Plan
+        ensures { λ r. ⌜ r ≡ Plan.Done (next (goes self at state) event Open.Keep Names.Keep Handles.Keep) ⌝ }
     {
-        self.goes(at, state)
-            .next(event, Open::Keep, Names::Keep, Handles::Keep)
+        let m = self.goes(at, state);
+        Plan::Done(m.next(event, Open::Keep, Names::Keep, Handles::Keep))
     }
 
     // Goes back to the last open state with an event.
-    fn pop(self, at: usize, event: Event) -> Step
-        ensures { λ r. ⌜ r ≡ next (goes self at (self .state)) event Open.Pop Names.Keep Handles.Keep ⌝ }
+    fn pop(self, at: usize, event: Event) -> Plan
+        ensures { λ r. ⌜ r ≡ Plan.Done (next (goes self at (self .state)) event Open.Pop Names.Keep Handles.Keep) ⌝ }
     {
         let state = self.state;
-        self.goes(at, state)
-            .next(event, Open::Pop, Names::Keep, Handles::Keep)
+        let m = self.goes(at, state);
+        Plan::Done(m.next(event, Open::Pop, Names::Keep, Handles::Keep))
     }
 
     // A node begins a collection.

@@ -1,12 +1,16 @@
 // A node: its properties and its content.
 ghost use mathlib.Core.Path.{_≡_};
+ghost use Prim.Native.Nat.{_<_};
+ghost use lib.ListN.{length};
+ghost use Rattle.places.specs.Places.{places};
 ghost use Rattle.records.specs.Names.{noRange};
 ghost use Rattle.rules.specs.Rules.Words.{first};
-ghost use Rattle.rules.specs.Rules.{parse-node, parse-node-over, alias, anchor-first, tag-first, node-content, block-content, with-tag, with-anchor, register-anchor, into, pop-state};
+ghost use Rattle.records.specs.Tokens.{readAt};
+ghost use Rattle.rules.specs.Rules.{node-from, node-properties, alias, anchor-first, tag-first, node-content, content, block-content, with-tag, with-anchor, register-anchor, into, pop-state};
 ghost use Rattle.tables.specs.Anchors.{anchorsOf, named};
 ghost use Rattle.parser.specs.Machine.{lent};
 ghost use Rattle.parser.specs.Answers.{decided, moved, namesAfter, overOf};
-ghost use Rattle.parser.specs.Nodes.{namesOf, propertiesOf, bare, anchored, tagOnly, nodeEvent, knownOf, placeOf, named-answer};
+ghost use Rattle.parser.specs.Nodes.{namesOf, propertiesOf, bare, anchored, tagOnly, nodeEvent, knownOf, placeOf, named-answer, behindOf, Behinds};
 use crate::Machine;
 use crate::Names;
 use crate::Over;
@@ -35,6 +39,12 @@ pub struct Properties {
     pub id: u32,
     pub tag: Tag,
     pub names: Names,
+}
+
+// What comes behind the properties: the content's place and token.
+pub enum Behind {
+    Content(usize, Token, Properties),
+    Done(Step),
 }
 
 // The id of a name.
@@ -142,38 +152,19 @@ fn find_place(text: &[u8], names: &[u8], n: usize, room: usize, name: Range) -> 
     Place::At(i)
 }
 
-impl Machine {
-    // push_state, then parse_node.
-    pub(crate) fn parse_node_over(
-        self,
-        tokens: &[u8],
-        text: &[u8],
-        names: &[u8],
-        tags: &[u8],
-        terms: Terms,
-        at: usize,
-        state: State,
-        block: bool,
-        indentless: bool,
-    ) -> Step
-        ensures { λ r. ⌜ r ≡ decided (lent (now (tokens .entry)) (now (text .entry)) (now (names .entry)) (now (tags .entry)) terms) self (λ g m. parse-node-over g m at state block indentless) ⌝ }
-    {
-        if self.depth < terms.states {
-            return self.parse_node(
-                tokens,
-                text,
-                names,
-                tags,
-                terms,
-                at,
-                Over::Above(state),
-                block,
-                indentless,
-            );
-        }
-        crate::refuse(23, 0)
-    }
+// The content at `at`, behind properties.
+fn content_at(tokens: &[u8], text: &[u8], at: usize, p: Properties) -> Behind
+    ensures { λ r. ⌜ r ≡ behindOf (readAt (now (tokens .entry)) (length (now (text .entry))) at) at p ⌝ }
+{
+    let read = tokens::read_token(tokens, text, at);
+    let Read::Token(t) = read else {
+        return Behind::Done(crate::refused(read));
+    };
+    Behind::Content(at, t, p)
+}
 
+impl Machine {
+    // A node whose first token is `t`.
     pub(crate) fn parse_node(
         self,
         tokens: &[u8],
@@ -182,59 +173,22 @@ impl Machine {
         tags: &[u8],
         terms: Terms,
         at: usize,
+        t: Token,
         over: Over,
         block: bool,
         indentless: bool,
     ) -> Step
-        ensures { λ r. ⌜ r ≡ decided (lent (now (tokens .entry)) (now (text .entry)) (now (names .entry)) (now (tags .entry)) terms) self (λ g m. parse-node g m at (overOf over) block indentless) ⌝ }
+        requires { ⌜ at < places (now tokens) 32 ⌝ }
+        ensures { λ r. ⌜ r ≡ decided (lent (now (tokens .entry)) (now (text .entry)) (now (names .entry)) (now (tags .entry)) terms) self (λ g m. node-from g m at (overOf over) block indentless t) ⌝ }
     {
-        let read = tokens::read_token(tokens, text, at);
-        let Read::Token(t) = read else {
-            return crate::refused(read);
-        };
         if t.kind == Token::ALIAS {
             return self.alias(tokens, text, names, tags, terms, at + 1, over, t);
         }
-        if t.kind == Token::ANCHOR {
-            return self.anchor_first(
-                tokens,
-                text,
-                names,
-                tags,
-                terms,
-                at + 1,
-                over,
-                block,
-                indentless,
-                t,
-            );
+        let behind = self.properties(tokens, text, names, tags, terms, at, t);
+        match behind {
+            Behind::Content(i, u, p) => self.node_content(i, u, over, block, indentless, p),
+            Behind::Done(step) => step,
         }
-        if t.kind == Token::TAG {
-            return self.tag_first(
-                tokens,
-                text,
-                names,
-                tags,
-                terms,
-                at + 1,
-                over,
-                block,
-                indentless,
-                t,
-            );
-        }
-        self.node_content(
-            tokens,
-            text,
-            names,
-            tags,
-            terms,
-            at,
-            over,
-            block,
-            indentless,
-            bare(t.start),
-        )
     }
 
     fn alias(
@@ -263,6 +217,28 @@ impl Machine {
         )
     }
 
+    fn properties(
+        self,
+        tokens: &[u8],
+        text: &[u8],
+        names: &[u8],
+        tags: &[u8],
+        terms: Terms,
+        at: usize,
+        t: Token,
+    ) -> Behind
+        requires { ⌜ at < places (now tokens) 32 ⌝ }
+        ensures { λ r. ⌜ Behinds (lent (now (tokens .entry)) (now (text .entry)) (now (names .entry)) (now (tags .entry)) terms) self (λ over block indentless g m. node-properties g m at over block indentless t) r ⌝ }
+    {
+        if t.kind == Token::ANCHOR {
+            return self.anchor_first(tokens, text, names, tags, terms, at + 1, t);
+        }
+        if t.kind == Token::TAG {
+            return self.tag_first(tokens, text, names, tags, terms, at + 1, t);
+        }
+        Behind::Content(at, t, bare(t.start))
+    }
+
     // An anchor `t`, then perhaps a tag.
     fn anchor_first(
         self,
@@ -272,51 +248,25 @@ impl Machine {
         tags: &[u8],
         terms: Terms,
         at: usize,
-        over: Over,
-        block: bool,
-        indentless: bool,
         t: Token,
-    ) -> Step
-        ensures { λ r. ⌜ r ≡ decided (lent (now (tokens .entry)) (now (text .entry)) (now (names .entry)) (now (tags .entry)) terms) self (λ g m. anchor-first g m at (overOf over) block indentless t) ⌝ }
+    ) -> Behind
+        ensures { λ r. ⌜ Behinds (lent (now (tokens .entry)) (now (text .entry)) (now (names .entry)) (now (tags .entry)) terms) self (λ over block indentless g m. anchor-first g m at over block indentless t) r ⌝ }
     {
         let name = t.a;
         let place = find_place(text, names, self.names, terms.names, name);
         let Place::At(i) = place else {
-            return crate::refuse(24, 0);
+            return Behind::Done(crate::refuse(24, 0));
         };
         let read = tokens::read_token(tokens, text, at);
         let Read::Token(u) = read else {
-            return crate::refused(read);
+            return Behind::Done(crate::refused(read));
         };
         let next = at + 1;
         let p = anchored(bare(t.start), t, i, self.next);
         if u.kind == Token::TAG {
-            return self.tag_second(
-                tokens,
-                text,
-                names,
-                tags,
-                terms,
-                next,
-                over,
-                block,
-                indentless,
-                p,
-                u,
-            );
+            return self.tag_second(tokens, text, names, tags, terms, next, p, u);
         }
-        self.node_content(
-            tokens,
-            text,
-            names,
-            tags,
-            terms,
-            at,
-            over,
-            block,
-            indentless,
-            p,
-        )
+        Behind::Content(at, u, p)
     }
 
     // A tag `u` behind an anchor.
@@ -328,32 +278,18 @@ impl Machine {
         tags: &[u8],
         terms: Terms,
         at: usize,
-        over: Over,
-        block: bool,
-        indentless: bool,
         p: Properties,
         u: Token,
-    ) -> Step
+    ) -> Behind
         requires { ⌜ p .names ≡ namesAfter (lent (now tokens) (now text) (now names) (now tags) terms) self (namesOf (p .names)) ⌝ }
-        ensures { λ r. ⌜ r ≡ decided (lent (now (tokens .entry)) (now (text .entry)) (now (names .entry)) (now (tags .entry)) terms) self (λ g m. with-tag g m (propertiesOf p) u (node-content g at (overOf over) block indentless)) ⌝ }
+        ensures { λ r. ⌜ Behinds (lent (now (tokens .entry)) (now (text .entry)) (now (names .entry)) (now (tags .entry)) terms) self (λ over block indentless g m. with-tag g m (propertiesOf p) u (node-content g at over block indentless)) r ⌝ }
     {
         let handle = u.a;
         let resolved = tag::resolve_tag(text, tags, self.handles, handle);
         let Resolved::Tagged(source, prefix) = resolved else {
-            return crate::refuse(13, p.start);
+            return Behind::Done(crate::refuse(13, p.start));
         };
-        self.node_content(
-            tokens,
-            text,
-            names,
-            tags,
-            terms,
-            at,
-            over,
-            block,
-            indentless,
-            tagged(p, u, source, prefix),
-        )
+        content_at(tokens, text, at, tagged(p, u, source, prefix))
     }
 
     // A tag `t`, then perhaps an anchor.
@@ -365,51 +301,25 @@ impl Machine {
         tags: &[u8],
         terms: Terms,
         at: usize,
-        over: Over,
-        block: bool,
-        indentless: bool,
         t: Token,
-    ) -> Step
-        ensures { λ r. ⌜ r ≡ decided (lent (now (tokens .entry)) (now (text .entry)) (now (names .entry)) (now (tags .entry)) terms) self (λ g m. tag-first g m at (overOf over) block indentless t) ⌝ }
+    ) -> Behind
+        ensures { λ r. ⌜ Behinds (lent (now (tokens .entry)) (now (text .entry)) (now (names .entry)) (now (tags .entry)) terms) self (λ over block indentless g m. tag-first g m at over block indentless t) r ⌝ }
     {
         let handle = t.a;
         let resolved = tag::resolve_tag(text, tags, self.handles, handle);
         let Resolved::Tagged(source, prefix) = resolved else {
-            return crate::refuse(13, t.start);
+            return Behind::Done(crate::refuse(13, t.start));
         };
         let read = tokens::read_token(tokens, text, at);
         let Read::Token(u) = read else {
-            return crate::refused(read);
+            return Behind::Done(crate::refused(read));
         };
         let next = at + 1;
         let p = tagged(bare(t.start), t, source, prefix);
         if u.kind == Token::ANCHOR {
-            return self.anchor_second(
-                tokens,
-                text,
-                names,
-                tags,
-                terms,
-                next,
-                over,
-                block,
-                indentless,
-                p,
-                u,
-            );
+            return self.anchor_second(tokens, text, names, tags, terms, next, p, u);
         }
-        self.node_content(
-            tokens,
-            text,
-            names,
-            tags,
-            terms,
-            at,
-            over,
-            block,
-            indentless,
-            p,
-        )
+        Behind::Content(at, u, p)
     }
 
     // An anchor `u` behind a tag.
@@ -421,87 +331,47 @@ impl Machine {
         tags: &[u8],
         terms: Terms,
         at: usize,
-        over: Over,
-        block: bool,
-        indentless: bool,
         p: Properties,
         u: Token,
-    ) -> Step
-        ensures { λ r. ⌜ r ≡ decided (lent (now (tokens .entry)) (now (text .entry)) (now (names .entry)) (now (tags .entry)) terms) self (λ g m. register-anchor g m u (node-content g at (overOf over) block indentless (with-anchor m (propertiesOf p) u))) ⌝ }
+    ) -> Behind
+        ensures { λ r. ⌜ Behinds (lent (now (tokens .entry)) (now (text .entry)) (now (names .entry)) (now (tags .entry)) terms) self (λ over block indentless g m. register-anchor g m u (node-content g at over block indentless (with-anchor m (propertiesOf p) u))) r ⌝ }
     {
         let name = u.a;
         let place = find_place(text, names, self.names, terms.names, name);
         let Place::At(i) = place else {
-            return crate::refuse(24, 0);
+            return Behind::Done(crate::refuse(24, 0));
         };
-        self.node_content(
-            tokens,
-            text,
-            names,
-            tags,
-            terms,
-            at,
-            over,
-            block,
-            indentless,
-            anchored(p, u, i, self.next),
-        )
+        content_at(tokens, text, at, anchored(p, u, i, self.next))
     }
 
-    // The content at `at`.
+    // The content `t` at `at`.
     fn node_content(
         self,
-        tokens: &[u8],
-        text: &[u8],
-        names: &[u8],
-        tags: &[u8],
-        terms: Terms,
         at: usize,
+        t: Token,
         over: Over,
         block: bool,
         indentless: bool,
         p: Properties,
     ) -> Step
-        requires { ⌜ p .names ≡ namesAfter (lent (now tokens) (now text) (now names) (now tags) terms) self (namesOf (p .names)) ⌝ }
-        ensures { λ r. ⌜ r ≡ decided (lent (now (tokens .entry)) (now (text .entry)) (now (names .entry)) (now (tags .entry)) terms) self (λ g m. node-content g at (overOf over) block indentless (propertiesOf p)) ⌝ }
+        requires { ⌜ at < 18446744073709551615 ⌝ }
+        ensures { λ r. ⌜ r ≡ named-answer self (p .names) (content at (overOf over) block indentless (propertiesOf p) t) ⌝ }
     {
-        let read = tokens::read_token(tokens, text, at);
-        let Read::Token(t) = read else {
-            return crate::refused(read);
-        };
         if kinds::when(indentless, t, Token::BLOCK_ENTRY) {
-            return self.collection(
-                at,
-                over,
-                State::IndentlessSequenceEntry,
-                Event::SEQUENCE_START,
-                p,
-                t,
-            );
+            let state = State::IndentlessSequenceEntry;
+            return self.collection(at, over, state, Event::SEQUENCE_START, p, t);
         }
         if t.kind == Token::SCALAR {
             let value = t.a;
             return self.scalar(at + 1, over, t.end, t.style, value, p);
         }
         if t.kind == Token::FLOW_SEQUENCE_START {
-            return self.collection(
-                at,
-                over,
-                State::FlowSequenceFirstEntry,
-                Event::SEQUENCE_START,
-                p,
-                t,
-            );
+            let state = State::FlowSequenceFirstEntry;
+            return self.collection(at, over, state, Event::SEQUENCE_START, p, t);
         }
         if t.kind == Token::FLOW_MAPPING_START {
-            return self.collection(
-                at,
-                over,
-                State::FlowMappingFirstKey,
-                Event::MAPPING_START,
-                p,
-                t,
-            );
+            let state = State::FlowMappingFirstKey;
+            return self.collection(at, over, state, Event::MAPPING_START, p, t);
         }
         self.block_content(at, over, block, p, t)
     }

@@ -1,6 +1,6 @@
 -- What a step changes in the places it was granted: a machine that fits its rooms goes to one that fits them. Assumes nothing.
-use mathlib.Core.Path.{_≡_, refl, sym, ap, _∙_}
-use mathlib.Core.Bool.{Bool, true, false, cond}
+use mathlib.Core.Path.{_≡_, refl, sym, _∙_}
+use mathlib.Core.Bool.{Bool, true, false}
 use mathlib.Core.List.{List, [], _∷_}
 use Prim.Native.Nat.{ℕ, zero, suc, _+_, _-_, _≤_}
 use native.Mathlib.Omega.{arith}
@@ -22,7 +22,7 @@ use Rattle.rules.specs.Run.{Rooms, room, short, limit, Model, small, fre
 use Rattle.rules.specs.Lists.{Reached, start, on}
 use Rattle.rules.specs.declared.State.{State}
 use Rattle.rules.specs.declared.State.the-variants as s
-use Rattle.rules.proofs.Sizes.{entered-length}
+use Rattle.rules.proofs.Sizes.{entered-size, entered-length}
 
 pub record Fits (r : Rooms) (m : Model) : Type 0 where
   pub deep : length (m .stack) ≤ r .opens
@@ -49,13 +49,8 @@ data Grants (r : Rooms) (g : Given) (m : Model) : Decision → Type 0 where
 
 -- a name that is there takes no more room
 entered-hit : {A : Type 0} (p : A → Bool) (x : A) (xs : List A) → w.hit? (w.first p xs) ≡ true → length (entered p x xs) ≡ length xs
-unfolding entered w.first w.hit? if_then_else_
-entered-hit p x [] h = let z : _≡_ {A = ℕ} 0 1 = cc in absurd (omega arith)
-entered-hit p x (y ∷ ys) h = go (p y) (entered-hit p x ys) h where
-  go : (t : Bool) → (w.hit? (w.first p ys) ≡ true → length (entered p x ys) ≡ length ys)
-      → w.hit? (if t then w.Got y else w.first p ys) ≡ true → length (cond t (x ∷ ys) (y ∷ entered p x ys)) ≡ suc (length ys)
-  go true ih h = refl
-  go false ih h = ap suc (ih h)
+unfolding if_then_else_
+entered-hit p x xs h = rw (entered-size p x xs, h)
 
 -- one more token declared
 pub declare-more : (g : Given) (n at : ℕ) (hs : List Handle) → w.declare g (suc n) at hs ≡ w.declare-read g (g .read (at + n)) (w.declare g n at hs)
@@ -134,10 +129,10 @@ module _ (r : Rooms) (g : Given) (m : Model) (f : Fits r m) where
   unfolding w.node handled
   grants-node at mv p kind end style value h n = next _ (record { deep = h; anchors = n; handles = f .handles })
 
-  grants-content : (at : ℕ) (over : Over) (block indentless : Bool) (p : w.Properties) → over-depth over ≤ r .opens → Named (p .names)
-      → Grants r g m (w.node-content g at over block indentless p)
-  unfolding w.node-content w.block-content
-  grants-content at over block indentless p h n = grants-look _ _ λ t e. grants-if _
+  grants-content : (at : ℕ) (over : Over) (block indentless : Bool) (p : w.Properties) (t : Token) → over-depth over ≤ r .opens → Named (p .names)
+      → Grants r g m (w.content at over block indentless p t)
+  unfolding w.content w.block-content
+  grants-content at over block indentless p t h n = grants-if _
       (λ e. grants-node _ _ p _ _ _ _ (into-deep over _ h) n)
       λ e. grants-if _
       (λ e. grants-node _ _ p _ _ _ _ (pop-deep over h) n)
@@ -160,18 +155,18 @@ module _ (r : Rooms) (g : Given) (m : Model) (f : Fits r m) where
 
   grants-parse-node : (at : ℕ) (over : Over) (block indentless : Bool) → over-depth over ≤ r .opens
       → Grants r g m (w.parse-node g (small m) at over block indentless)
-  unfolding w.parse-node w.anchor-first w.tag-first w.no-properties w.with-anchor
+  unfolding w.parse-node w.node-from w.node-properties w.anchor-first w.tag-first w.node-content w.no-properties w.with-anchor
   grants-parse-node at over block indentless h = grants-look _ _ λ t e. grants-if _
       (λ e. grants-alias _ over _ _ h)
       λ e. grants-if _
       (λ e. grants-register t λ n. grants-look _ _ λ u e. grants-if _
-      (λ e. grants-tag _ _ _ λ q i. grants-content _ over _ _ q h (rw i n))
-      (λ e. grants-content _ over _ _ _ h n))
+      (λ e. grants-tag _ _ _ λ q i. grants-look _ _ λ t e. grants-content _ over _ _ q _ h (rw i n))
+      (λ e. grants-content _ over _ _ _ _ h n))
       λ e. grants-if _
       (λ e. grants-tag _ _ _ λ q i. grants-look _ _ λ u e. grants-if _
-      (λ e. grants-register u λ n. grants-content _ over _ _ _ h n)
-      (λ e. grants-content _ over _ _ q h (rw i kept-names)))
-      λ e. grants-content _ over _ _ _ h kept-names
+      (λ e. grants-register u λ n. grants-look _ _ λ t e. grants-content _ over _ _ _ _ h n)
+      (λ e. grants-content _ over _ _ q _ h (rw i kept-names)))
+      λ e. grants-content _ over _ _ _ _ h kept-names
 
   grants-over : (at : ℕ) (p : State) (block indentless : Bool) → Grants r g m (w.parse-node-over g (small m) at p block indentless)
   unfolding w.parse-node-over

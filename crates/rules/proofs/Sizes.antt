@@ -1,4 +1,5 @@
 -- How much the tables grow by a change. Assumes nothing.
+use mathlib.Core.Path.{_≡_, refl}
 use mathlib.Core.Bool.{Bool, true, false, cond}
 use mathlib.Core.List.{List, [], _∷_}
 use Prim.Native.Nat.{ℕ, zero, suc, _+_, _-_, _≤_}
@@ -14,14 +15,24 @@ use Rattle.rules.specs.Rules.{if_then_else_, Given, Names, Tags}
 use Rattle.rules.specs.Run.{Model, named, handled}
 use Rattle.rules.proofs.Weights.{put, told}
 
+-- an entry takes the place of one that it names, else one more
+pub entered-size : {A : Type 0} (p : A → Bool) (x : A) (xs : List A)
+    → length (entered p x xs) ≡ (if w.hit? (w.first p xs) then length xs else suc (length xs))
+unfolding entered w.first w.hit? if_then_else_
+entered-size p x [] = refl
+entered-size p x (y ∷ ys) = go (p y) (w.hit? (w.first p ys)) refl (entered-size p x ys) where
+  go : (b c : Bool) → w.hit? (w.first p ys) ≡ c → length (entered p x ys) ≡ (if c then length ys else suc (length ys))
+      → length (cond b (x ∷ ys) (y ∷ entered p x ys)) ≡ (if w.hit? (if b then w.Got y else w.first p ys) then suc (length ys) else suc (suc (length ys)))
+  go true c e h = refl
+  go false true e h = rw (h, e)
+  go false false e h = rw (h, e)
+
 pub entered-length : {A : Type 0} (p : A → Bool) (x : A) (xs : List A) → length (entered p x xs) ≤ suc (length xs)
-unfolding entered
-entered-length p x [] = omega arith
-entered-length p x (y ∷ ys) = go (p y) (entered-length p x ys) where
-  go : (t : Bool) → length (entered p x ys) ≤ suc (length ys)
-      → length (cond t (x ∷ ys) (y ∷ entered p x ys)) ≤ suc (suc (length ys))
-  go true h = omega arith
-  go false h = omega arith
+unfolding if_then_else_
+entered-length p x xs = rw (entered-size p x xs) (go (w.hit? (w.first p xs))) where
+  go : (t : Bool) → (if t then length xs else suc (length xs)) ≤ suc (length xs)
+  go true = omega arith
+  go false = omega arith
 
 read-length : (g : Given) (r : Read) (hs : List Handle) → length (w.declare-read g r hs) ≤ suc (length hs)
 unfolding w.declare-read if_then_else_

@@ -125,16 +125,15 @@ module _ (state : State) where
   w-node at mv p kind end style value h = next _ h
 
 module _ {g : Given} (l : Listed g) (m : Small) (state : State) where
-  w-content : (at : ℕ) (over : w.Over) (block indentless : Bool) (p : w.Properties) → Awaits state over
-      → Walks state (w.node-content g at over block indentless p)
-  unfolding w.node-content w.block-content
-  w-content at over block indentless p a =
+  w-content : (at : ℕ) (over : w.Over) (block indentless : Bool) (p : w.Properties) (t : Token) → Awaits state over
+      → Walks state (w.content at over block indentless p t)
+  unfolding w.content w.block-content
+  w-content at over block indentless p t a =
       let sequence : (inner : State) → ((o : List Open) → place (standing inner) o ≡ inside (k.sequence ∷ o)) → Leads state 7 (w.into over inner) =
       λ inner q. leads-into state over 7 inner k.sequence a q (λ o. k.sequence-start) in
       let mapping : (inner : State) → ((o : List Open) → place (standing inner) o ≡ inside (k.key ∷ o)) → Leads state 9 (w.into over inner) =
       λ inner q. leads-into state over 9 inner k.key a q (λ o. k.mapping-start) in
       let leaf : Leads state 6 (w.pop-state over) = leads-pop state over 6 a (λ o. k.scalar) in
-      each-look l _ _ λ h.
       each-if _ (λ e. w-node state _ _ p _ _ _ _ (sequence s.IndentlessSequenceEntry (λ o. refl)))
       λ e. each-if _ (λ e. w-node state _ _ p _ _ _ _ leaf)
       λ e. each-if _ (λ e. w-node state _ _ p _ _ _ _ (sequence s.FlowSequenceFirstEntry (λ o. refl)))
@@ -147,8 +146,8 @@ module _ {g : Given} (l : Listed g) (m : Small) (state : State) where
       → Walks state (w.parse-node g m at over block indentless)
   w-parse-node at over block indentless a = each-node l m at over block indentless (λ h. tt)
       (λ start end id h. w-plain state _ _ 5 _ _ _ (leads-pop state over 5 a (λ o. k.alias)))
-      (λ i p h. w-content i over block indentless p a)
-      (λ start. w-content at over block indentless _ a)
+      (λ i p t h j. w-content i over block indentless p t a)
+      (λ t h. w-content at over block indentless _ t a)
 
   -- a node over a new open state, where it may come
   w-over : (at : ℕ) (p : State) (block indentless : Bool)

@@ -103,19 +103,19 @@ module _ {W : Place → ℕ → Type 0} {N : Change → Type 0} where
       pub each-node : (at : ℕ) (over : w.Over) (block indentless : Bool)
           → (at < g .count → W w.AnchorPlace (suc (length (m .anchors))))
           → ((start end id : ℕ) → at < g .count → Each W N (w.give (suc at) (w.pop-state over) (w.plain 5 start end id)))
-          → ((i : ℕ) (p : w.Properties) → at < i → Each W N (w.node-content g i over block indentless p))
-          → ((start : ℕ) → Each W N (w.node-content g at over block indentless (w.no-properties start)))
+          → ((i : ℕ) (p : w.Properties) (t : Token) → at < i → i < g .count → Each W N (w.content i over block indentless p t))
+          → ((t : Token) → at < g .count → Each W N (w.content at over block indentless (w.no-properties (t .start)) t))
           → Each W N (w.parse-node g m at over block indentless)
-      unfolding w.parse-node w.anchor-first w.tag-first
+      unfolding w.parse-node w.node-from w.node-properties w.anchor-first w.tag-first w.node-content
       each-node at over block indentless f a h k =
           each-look _ _ λ i. each-if _
           (λ e. each-alias _ _ _ _ λ x. a _ _ _ i)
           λ e. each-if _
           (λ e. each-register g m _ (f i) (each-look _ _ λ j. each-if _
-          (λ e. each-tag g m _ _ _ λ q. h _ q (omega arith))
-          (λ e. h _ _ (omega arith))))
+          (λ e. each-tag g m _ _ _ λ q. each-look _ _ λ j. h _ q _ (omega arith) j)
+          (λ e. h _ _ _ (omega arith) j)))
           λ e. each-if _
           (λ e. each-tag g m _ _ _ λ q. each-look _ _ λ j. each-if _
-          (λ e. each-register g m _ (f i) (h _ _ (omega arith)))
-          (λ e. h _ q (omega arith)))
-          λ e. k _
+          (λ e. each-register g m _ (f i) (each-look _ _ λ j. h _ _ _ (omega arith) j))
+          (λ e. h _ q _ (omega arith) j))
+          λ e. k _ i

@@ -197,13 +197,17 @@ block-content at over block p t =
     else if p .any then node at (pop-state over) p 6 (p .end) 0 noRange
     else Refused 8 (t .start)
 
-unfoldable pub node-content : Given → ℕ → Over → Bool → Bool → Properties → Decision
-node-content g at over block indentless p = look g at λ t.
+-- the content t at `at`
+unfoldable pub content : ℕ → Over → Bool → Bool → Properties → Token → Decision
+content at over block indentless p t =
     if indentless && is t BLOCK-ENTRY then node at (into over s.IndentlessSequenceEntry) p 7 (t .end) 0 noRange
     else if is t SCALAR then node (suc at) (pop-state over) p 6 (t .end) (t .style) (t .a)
     else if is t FLOW-SEQUENCE-START then node at (into over s.FlowSequenceFirstEntry) p 7 (t .end) 0 noRange
     else if is t FLOW-MAPPING-START then node at (into over s.FlowMappingFirstKey) p 9 (t .end) 0 noRange
     else block-content at over block p t
+
+unfoldable pub node-content : Given → ℕ → Over → Bool → Bool → Properties → Decision
+node-content g at over block indentless p = look g at (content at over block indentless p)
 
 -- pop_state comes first, then the name is looked up
 unfoldable pub alias : ℕ → Over → Token → Hit Anchor → Decision
@@ -215,20 +219,29 @@ unfoldable pub anchor-first : Given → Small → ℕ → Over → Bool → Bool
 anchor-first g m at over block indentless t = register-anchor g m t (look g at λ u.
     if is u TAG
     then with-tag g m (with-anchor m (no-properties (t .start)) t) u (node-content g (suc at) over block indentless)
-    else node-content g at over block indentless (with-anchor m (no-properties (t .start)) t))
+    else content at over block indentless (with-anchor m (no-properties (t .start)) t) u)
 
 -- a tag t, then perhaps an anchor at `at`
 unfoldable pub tag-first : Given → Small → ℕ → Over → Bool → Bool → Token → Decision
 tag-first g m at over block indentless t = with-tag g m (no-properties (t .start)) t λ p. look g at λ u.
     if is u ANCHOR then register-anchor g m u (node-content g (suc at) over block indentless (with-anchor m p u))
-    else node-content g at over block indentless p
+    else content at over block indentless p u
+
+-- the properties of a node whose first token is t, and its content; a token that was looked at is not looked at again
+unfoldable pub node-properties : Given → Small → ℕ → Over → Bool → Bool → Token → Decision
+node-properties g m at over block indentless t =
+    if is t ANCHOR then anchor-first g m (suc at) over block indentless t
+    else if is t TAG then tag-first g m (suc at) over block indentless t
+    else content at over block indentless (no-properties (t .start)) t
+
+-- a node whose first token is t
+unfoldable pub node-from : Given → Small → ℕ → Over → Bool → Bool → Token → Decision
+node-from g m at over block indentless t =
+    if is t ALIAS then alias (suc at) over t (first (anchors.named (g .text) (t .a)) (m .anchors))
+    else node-properties g m at over block indentless t
 
 unfoldable pub parse-node : Given → Small → ℕ → Over → Bool → Bool → Decision
-parse-node g m at over block indentless = look g at λ t.
-    if is t ALIAS then alias (suc at) over t (first (anchors.named (g .text) (t .a)) (m .anchors))
-    else if is t ANCHOR then anchor-first g m (suc at) over block indentless t
-    else if is t TAG then tag-first g m (suc at) over block indentless t
-    else node-content g at over block indentless (no-properties (t .start))
+parse-node g m at over block indentless = look g at (node-from g m at over block indentless)
 
 -- push_state, then parse_node
 unfoldable pub parse-node-over : Given → Small → ℕ → State → Bool → Bool → Decision

@@ -10,4 +10,4 @@ document-start-spec =
     tie.close
     (tie.spec
     (search needs) (search needs)
-    (λ c. simp (c .document-start-at .ensures, c .before .past .ensures) (start-past _ _ _)))
+    (λ c. (simp (c .document-start-at .ensures .0, c .before .past .ensures) (start-past _ _ _), c .document-start-at .ensures .1)))

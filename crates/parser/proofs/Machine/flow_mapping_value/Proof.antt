@@ -2,10 +2,12 @@ use borrow.Author.Needs.{needs}
 use native.Mathlib.Omega.{arith}
 use Rattle.records.proofs.TokenLaws.{inside}
 use Rattle.parser.proofs.By.{by-is, by-look, by-no, by-none, by-not, by-yes}
+use Rattle.parser.proofs.PlanLaws.{by-over}
 use mathlib.Core.Path.{refl}
 use native.Mathlib.Numerals.{add-one}
 use Rattle.parser.specs.Answers.{decided, answer, refusedBy, refusing, stateAfter, openAfter, namesAfter, handlesAfter}
 use Rattle.parser.specs.Machine.{small, lent}
+use Rattle.parser.specs.Plans.{planned}
 use Rattle.rules.specs.Rules.{flow-mapping-value}
 use Rattle.rules.specs.Rules.Words.{give, among}
 use Rattle.rules.specs.Run.{limit}
@@ -13,7 +15,7 @@ use Rattle.parser.proofs.Machine.flow_mapping_value.Statement.{statemen
 use Rattle.parser.proofs.Machine.flow_mapping_value.Tie as tie
 
 pub flow-mapping-value-spec : {M : Type 1} → statement M
-unfolding flow-mapping-value small decided answer limit lent give refusedBy refusing stateAfter openAfter namesAfter handlesAfter among
+unfolding flow-mapping-value small decided answer limit lent give refusedBy refusing stateAfter openAfter namesAfter handlesAfter among planned
 flow-mapping-value-spec =
     tie.close
     (tie.spec
@@ -21,15 +23,15 @@ flow-mapping-value-spec =
     (λ c.
     let c1 = c .before in
     let c2 = c1 .before .before in
-    by-none _ _ _ _ _ _ (c2 .read-token .ensures) (c1 .enum-told .given .1) (simp (add-one, c .refused .ensures, c1 .enum-told .given .1)))
+    ((λ _ _ _. by-none _ _ _ _ _ _ (c2 .read-token .ensures) (c1 .enum-told .given .1) (simp (add-one, c .declined .ensures, c1 .enum-told .given .1))), rw (c .declined .ensures) tt))
     (search needs) (search needs)
     (λ c.
     let c1 = c .before in
     let c2 = c1 .before in
     let c3 = c2 .before .before in
     let c4 = c3 .before .before in
-    by-look _ _ _ _ _ _ (c4 .read-token .ensures) (c3 .read .given .1) (by-yes _ _ _ _ _ _ _ refl (c2 .if1 .taken) (simp (add-one, c .give .ensures, c1 .empty-scalar .ensures))))
-    (λ c. let tokens = c .before .before .before .before .before .before .before .before .before .before .before .good .1 .0 in omega (arith, inside _ _ _ (c .before .before .before .before .before .before .read-token .ensures) (c .before .before .before .before .read .given .1), tokens))
+    ((λ _ _ _. by-look _ _ _ _ _ _ (c4 .read-token .ensures) (c3 .read .given .1) (by-yes _ _ _ _ _ _ _ refl (c2 .if1 .taken) (simp (add-one, c .give .ensures, c1 .empty-scalar .ensures)))), rw (c .give .ensures) tt))
+    (λ c. let tokens = c .before .before .before .before .before .before .before .before .before .good .1 .0 in omega (arith, inside _ _ _ (c .before .before .before .before .before .before .read-token .ensures) (c .before .before .before .before .read .given .1), tokens))
     (search needs) (search needs) (search needs) (search needs)
     (λ c.
     let c1 = c .before in
@@ -38,7 +40,7 @@ flow-mapping-value-spec =
     let c4 = c3 .before .before in
     let c5 = c4 .before .before in
     let c6 = c5 .before .before in
-    by-look _ _ _ _ _ _ (c6 .read-token .ensures) (c5 .read .given .1) (by-no _ _ _ _ _ _ _ refl (c4 .if1 .left) (by-is _ _ _ _ _ _ _ _ (c3 .if2 .taken) (by-none _ _ _ _ _ _ ((rw add-one at (c2 .read-token2 .ensures))) (c1 .enum-told2 .given .1) (simp (add-one, c .refused2 .ensures, c1 .enum-told2 .given .1))))))
+    ((λ _ _ _. by-look _ _ _ _ _ _ (c6 .read-token .ensures) (c5 .read .given .1) (by-no _ _ _ _ _ _ _ refl (c4 .if1 .left) (by-is _ _ _ _ _ _ _ _ (c3 .if2 .taken) (by-none _ _ _ _ _ _ ((rw add-one at (c2 .read-token2 .ensures))) (c1 .enum-told2 .given .1) (simp (add-one, c .declined2 .ensures, c1 .enum-told2 .given .1)))))), rw (c .declined2 .ensures) tt))
     (search needs) (search needs) (search needs)
     (λ c.
     let c1 = c .before in
@@ -50,18 +52,16 @@ flow-mapping-value-spec =
     let c7 = c6 .before .before in
     let c8 = c7 .before .before in
     let c9 = c8 .before .before in
-    by-look _ _ _ _ _ _ (c9 .read-token .ensures) (c8 .read .given .1) (by-no _ _ _ _ _ _ _ refl (c7 .if1 .left) (by-is _ _ _ _ _ _ _ _ (c6 .if2 .taken) (by-look _ _ _ _ _ _ ((rw add-one at (c5 .read-token2 .ensures))) (c4 .ahead .given .1) (by-yes _ _ _ _ _ _ _ (c3 .ends-flow-value .ensures) (c2 .if3 .taken) (simp (add-one, c .give2 .ensures, c1 .empty-scalar2 .ensures)))))))
-    (search needs)
+    ((λ _ _ _. by-look _ _ _ _ _ _ (c9 .read-token .ensures) (c8 .read .given .1) (by-no _ _ _ _ _ _ _ refl (c7 .if1 .left) (by-is _ _ _ _ _ _ _ _ (c6 .if2 .taken) (by-look _ _ _ _ _ _ ((rw add-one at (c5 .read-token2 .ensures))) (c4 .ahead .given .1) (by-yes _ _ _ _ _ _ _ (c3 .ends-flow-value .ensures) (c2 .if3 .taken) (simp (add-one, c .give2 .ensures, c1 .empty-scalar2 .ensures))))))), rw (c .give2 .ensures) tt))
     (λ c.
     let c1 = c .before in
-    let c2 = c1 .before in
+    let c2 = c1 .before .before in
     let c3 = c2 .before .before in
-    let c4 = c3 .before .before in
-    let c5 = c4 .before in
+    let c4 = c3 .before in
+    let c5 = c4 .before .before in
     let c6 = c5 .before .before in
     let c7 = c6 .before .before in
-    let c8 = c7 .before .before in
-    by-look _ _ _ _ _ _ (c8 .read-token .ensures) (c7 .read .given .1) (by-no _ _ _ _ _ _ _ refl (c6 .if1 .left) (by-is _ _ _ _ _ _ _ _ (c5 .if2 .taken) (by-look _ _ _ _ _ _ ((rw add-one at (c4 .read-token2 .ensures))) (c3 .ahead .given .1) (by-no _ _ _ _ _ _ _ (c2 .ends-flow-value .ensures) (c1 .if3 .left) (simp (add-one, c .parse-node-over .ensures)))))))
+    ((λ _ _ _. by-look _ _ _ _ _ _ (c7 .read-token .ensures) (c6 .read .given .1) (by-no _ _ _ _ _ _ _ refl (c5 .if1 .left) (by-is _ _ _ _ _ _ _ _ (c4 .if2 .taken) (by-look _ _ _ _ _ _ ((rw add-one at (c3 .read-token2 .ensures))) (c2 .ahead .given .1) (by-no _ _ _ _ _ _ _ (c1 .ends-flow-value .ensures) (c .if3 .left) (rw add-one (by-over _ _ _ _ _ ((rw add-one at (c3 .read-token2 .ensures))) (c2 .ahead .given .1) _))))))), inside _ _ _ (c3 .read-token2 .ensures) (c2 .ahead .given .1)))
     (search needs) (search needs)
     (λ c.
     let c1 = c .before in
@@ -69,4 +69,4 @@ flow-mapping-value-spec =
     let c3 = c2 .before .before in
     let c4 = c3 .before .before in
     let c5 = c4 .before .before in
-    by-look _ _ _ _ _ _ (c5 .read-token .ensures) (c4 .read .given .1) (by-no _ _ _ _ _ _ _ refl (c3 .if1 .left) (by-not _ _ _ _ _ _ _ _ (c2 .if2 .left) (simp (add-one, c .give3 .ensures, c1 .empty-scalar3 .ensures))))))
+    ((λ _ _ _. by-look _ _ _ _ _ _ (c5 .read-token .ensures) (c4 .read .given .1) (by-no _ _ _ _ _ _ _ refl (c3 .if1 .left) (by-not _ _ _ _ _ _ _ _ (c2 .if2 .left) (simp (add-one, c .give3 .ensures, c1 .empty-scalar3 .ensures))))), rw (c .give3 .ensures) tt)))

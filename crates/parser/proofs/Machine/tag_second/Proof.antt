@@ -1,15 +1,14 @@
 use borrow.Author.Needs.{needs}
-use Rattle.parser.proofs.NodeLaws.{by-tagged, by-untagged}
-use native.Mathlib.Numerals.{add-one}
-use Rattle.parser.specs.Answers.{decided, answer, refusedBy, refusing, overOf, namesAfter, handlesAfter}
-use Rattle.parser.specs.Machine.{lent}
-use Rattle.parser.specs.Nodes.{tagOnly, propertiesOf, namesOf}
+use Rattle.parser.proofs.NodeLaws.{by-behind, by-follows, by-tagged, by-untagged}
+use Rattle.parser.specs.Machine.{lent, small}
+use Rattle.parser.specs.Answers.{decided, answer, refusing}
+use Rattle.parser.specs.Nodes.{tagOnly, behind, namesOf, propertiesOf}
 use Rattle.rules.specs.Run.{limit}
 use Rattle.parser.proofs.Machine.tag_second.Statement.{statement}
 use Rattle.parser.proofs.Machine.tag_second.Tie as tie
 
 pub tag-second-spec : {M : Type 1} → statement M
-unfolding tagOnly decided answer limit lent refusedBy refusing overOf propertiesOf namesOf namesAfter handlesAfter
+unfolding tagOnly small decided answer limit lent refusing behind propertiesOf namesOf
 tag-second-spec =
     tie.close
     (tie.spec
@@ -17,11 +16,11 @@ tag-second-spec =
     (λ c.
     let c1 = c .before in
     let c2 = c1 .before .before in
-    by-untagged _ _ _ _ _ _ _ (c2 .resolve-tag .ensures) (c1 .enum-told .given .1) (simp (add-one, c .refuse .ensures)))
-    (search needs)
-    (λ c κs. rw (c .tagged .ensures) (c .before .before .before .before .before .before .before .before .before .before .pre))
+    ((λ o b i. by-untagged _ _ _ _ _ _ _ (c2 .resolve-tag .ensures) (c1 .enum-told .given .1) (c .refuse .ensures)), tt))
+    (search needs) (search needs)
     (λ c.
     let c1 = c .before in
     let c2 = c1 .before .before in
     let c3 = c2 .before .before in
-    by-tagged _ _ _ _ _ _ _ (c3 .resolve-tag .ensures) (c2 .resolved .given .1) (simp (add-one, c .node-content .ensures, c1 .tagged .ensures))))
+    let pre = c3 .before .before .before .before .before .before .pre in
+    ((λ o b i. by-tagged _ _ _ _ _ _ _ (c3 .resolve-tag .ensures) (c2 .resolved .given .1) (by-behind _ _ _ o b i _ _ pre (rw (c1 .tagged .ensures) at (c .content-at .ensures)))), by-follows _ _ _ _ (c .content-at .ensures))))

@@ -1,0 +1,11 @@
+use borrow.Author.Needs.{needs}
+use native.Mathlib.Numerals.{add-one}
+use Rattle.parser.proofs.decline.Statement.{statement}
+use Rattle.parser.proofs.decline.Tie as tie
+
+pub decline-spec : {M : Type 1} → statement M
+decline-spec =
+    tie.close
+    (tie.spec
+    (search needs)
+    (λ c. simp (add-one, c .refuse .ensures)))
