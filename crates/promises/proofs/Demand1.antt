@@ -72,13 +72,20 @@ judged c = go (firstChecks (c .tokens) (length (c .text))) refl where
       passed-on (rw i at q) (ran c (rw i at q))
 
 -- the numbers of the run itself are 0 to 14 and 22 to 25
-rules-number : {r : Rooms} {g : Given} {lim n : ℕ} → Answer r g lim n → known n ≡ true
-unfolding known
-rules-number {n = n} (plain h) = rw (le-leb n 14 h)
-rules-number (no-event e h) = rw e
-rules-number {n = n} (no-place p e h) = rw (lt-leb n 14 (omega (arith, short-range p)), le-leb 20 n (omega (arith, short-range p)), le-leb n 27 (omega (arith, short-range p)))
+abbrev pub Of-run : ℕ → Type 0
+Of-run n = (n ≤ 14) ⊎ ((22 ≤ n) × (n ≤ 25))
 
-pub first-range : (n : ℕ) → of-first-checks n ≡ true → ((20 ≤ n) × (n ≤ 21)) ⊎ ((26 ≤ n) × (n ≤ 27))
+run-range : {r : Rooms} {g : Given} {lim n : ℕ} → Answer r g lim n → Of-run n
+run-range (plain h) = inl h
+run-range (no-event e h) = inr (omega arith)
+run-range (no-place p e h) = inr (omega (arith, short-range p))
+
+run-number : (n : ℕ) → Of-run n → known n ≡ true
+unfolding known
+run-number n (inl h) = rw (le-leb n 14 h)
+run-number n (inr h) = rw (lt-leb n 14 (omega arith), le-leb 20 n (omega arith), le-leb n 27 (omega arith))
+
+first-range : (n : ℕ) → of-first-checks n ≡ true → ((20 ≤ n) × (n ≤ 21)) ⊎ ((26 ≤ n) × (n ≤ 27))
 unfolding of-first-checks
 first-range n h = go (eqb n 20) (eqb n 21) (eqb n 26) (eqb n 27) refl refl refl refl h where
   go : (a b c d : Bool) → eqb n 20 ≡ a → eqb n 21 ≡ b → eqb n 26 ≡ c → eqb n 27 ≡ d → a || (b || (c || d)) ≡ true
@@ -89,23 +96,28 @@ first-range n h = go (eqb n 20) (eqb n 21) (eqb n 26) (eqb n 27) refl refl refl 
   go false false false true e f g i h = inr (omega (arith, eqb-true n 27 i))
   go false false false false e f g i h = absurd (false-true h)
 
+-- no number of the first checks is one of the run itself
+pub not-first : (n : ℕ) → of-first-checks n ≡ true → Of-run n → ⊥
+not-first n h = go (first-range n h) where
+  go : ((20 ≤ n) × (n ≤ 21)) ⊎ ((26 ≤ n) × (n ≤ 27)) → Of-run n → ⊥
+  go (inl r) (inl k) = omega arith
+  go (inl r) (inr k) = omega arith
+  go (inr r) (inl k) = omega arith
+  go (inr r) (inr k) = omega arith
+
+-- an accepted call passed the first checks
+pub accepted-passes : (c : Call) → after c .answer .number ≡ 0 → Passes c
+accepted-passes c z = go (judged c) where
+  go : Judged c → Passes c
+  go (refused n k e f h) = absurd (not-first n k (inl (omega arith)))
+  go (passed-on q r) = q
+
 first-number : (n : ℕ) → of-first-checks n ≡ true → known n ≡ true
 unfolding known
 first-number n h = go (first-range n h) where
   go : ((20 ≤ n) × (n ≤ 21)) ⊎ ((26 ≤ n) × (n ≤ 27)) → known n ≡ true
   go (inl r) = rw (lt-leb n 14 (omega arith), le-leb 20 n (omega arith), le-leb n 27 (omega arith))
   go (inr r) = rw (lt-leb n 14 (omega arith), le-leb 20 n (omega arith), le-leb n 27 (omega arith))
-
--- none of those is a number of the run itself
-not-first : {r : Rooms} {g : Given} {lim n : ℕ} → Answer r g lim n → of-first-checks n ≡ true → ⊥
-not-first {n = n} a h = go a (first-range n h) where
-  go : {r : Rooms} {g : Given} {lim : ℕ} → Answer r g lim n → ((20 ≤ n) × (n ≤ 21)) ⊎ ((26 ≤ n) × (n ≤ 27)) → ⊥
-  go (plain k) (inl r) = omega arith
-  go (plain k) (inr r) = omega arith
-  go (no-event e k) (inl r) = omega arith
-  go (no-event e k) (inr r) = omega arith
-  go (no-place p e k) (inl r) = omega (arith, short-range p)
-  go (no-place p e k) (inr r) = omega (arith, short-range p)
 
 -- what the run of a list that passed answers
 pub ruled : (c : Call) → firstChecks (c .tokens) (length (c .text)) ≡ checked.Passed (places (c .tokens) 32)
@@ -118,14 +130,14 @@ pub a-number : (c : Call) → known (after c .answer .number) ≡ true
 a-number c = go (judged c) where
   go : Judged c → known (after c .answer .number) ≡ true
   go (refused n k e f h) = rw e (first-number n k)
-  go (passed-on q r) = rw (r .number) (rules-number (ruled c q))
+  go (passed-on q r) = rw (r .number) (run-number _ (run-range (ruled c q)))
 
 -- "A list that fails the first checks writes no event."
 pub no-event-written : (c : Call) → of-first-checks (after c .answer .number) ≡ true → (after c .answer .count ≡ 0) × (after c .events ≡ c .events)
 no-event-written c = go (judged c) where
   go : Judged c → of-first-checks (after c .answer .number) ≡ true → (after c .answer .count ≡ 0) × (after c .events ≡ c .events)
   go (refused n k e f h) i = (f, h)
-  go (passed-on q r) i = absurd (not-first (ruled c q) (rw (r .number) at i))
+  go (passed-on q r) i = absurd (not-first _ i (rw (r .number) (run-range (ruled c q))))
 
 -- as many events as there is room for
 pub fits : (c : Call) → length (by-rules c .events) ≤ places (c .events) 48

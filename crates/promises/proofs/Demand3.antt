@@ -1,7 +1,7 @@
 -- Demand 3: room known in advance, of the run on bytes. Assumes nothing.
-use mathlib.Core.Path.{_≡_, sym, ap, _∙_}
+use mathlib.Core.Path.{_≡_, refl, sym, ap, _∙_}
 use mathlib.Core.Bool.{true}
-use mathlib.Core.Logic.{_↔_, _⊎_, inl, inr}
+use mathlib.Core.Logic.{_↔_, inr}
 use Prim.Native.Nat.{ℕ, zero, suc, _+_, _-_, _*_, _≤_, _<_}
 use native.Mathlib.Omega.{arith}
 use borrow.Author.Tests.{le-leb}
@@ -16,13 +16,13 @@ use Rattle.rules.specs.Documents.{starts, documents}
 use Rattle.rules.specs.Starred.{bare}
 use Rattle.rules.specs.Needs.{lacks, all-needs, peaks, Fits, ample, Begins, Cut, Short, Wider}
 use Rattle.rules.proofs.ListLaws.{checked-list}
-use Rattle.rules.proofs.Bounds.{places-suffice, accepted-3A-4}
+use Rattle.rules.proofs.Bounds.{places-suffice, last-sound, accepted-last, accepted-3A-4}
 use Rattle.rules.proofs.Witness.{witness, documents-length}
 use Rattle.rules.proofs.Rooms.{by-order, beginning, fitting, exactly, more-room}
 use Rattle.run.specs.Run.{roomsOf}
 use Rattle.promises.specs.Bytes.{as-bytes, numbers, small, empty, tidy, sound, all-sound}
-use Rattle.promises.specs.Demands.{Call, after, given, rooms, by-rules, Roomy, taken, Grown}
-use Rattle.promises.proofs.Demand1.{Passes, Judged, refused, passed-on, judged, first-range}
+use Rattle.promises.specs.Demands.{Call, after, given, rooms, by-rules, Roomy, taken, Accepted, Grown}
+use Rattle.promises.proofs.Demand1.{Passes, ran, Judged, refused, passed-on, judged, not-first, accepted-passes}
 use Rattle.promises.proofs.Demand2.{Right, every-event-right, Written, on-list, written-passes, written-given}
 
 -- a call that passes the first checks lends a list of tokens
@@ -40,24 +40,36 @@ room-for c n m HandlePlace = m .handles
 pub never-short : (c : Call) → Roomy c (places (c .tokens) 32) → Short (after c .answer .number) → ⊥
 unfolding by-rules given in-bytes
 never-short c m s = go (judged c) where
-  first-is : (n : ℕ) → ((20 ≤ n) × (n ≤ 21)) ⊎ ((26 ≤ n) × (n ≤ 27)) → Short n → ⊥
-  first-is n (inl h) s = omega arith
-  first-is n (inr h) s = omega arith
-
   go : Judged c → ⊥
-  go (refused n k e f h) = first-is n (first-range n k) (rw e at s)
+  go (refused n k e f h) = not-first n k (inr (rw e at s))
   go (passed-on q r) = omega (arith, r .number, places-suffice (rooms c) (as-list c q) (places (c .events) 48) (m .events) (room-for c (places (c .tokens) 32) m))
 
--- "an accepted stream of A tokens gives at most 3A - 4 events"
-pub at-most : (c : Call) → after c .answer .number ≡ 0 → after c .answer .count + 4 ≤ 3 * taken c
+-- a call answered 0 is an accepted stream: the tokens that its run took, up to the StreamEnd
+pub accepted-stream : (c : Call) → after c .answer .number ≡ 0 → Accepted c (taken c)
+unfolding by-rules given in-bytes taken
+accepted-stream c z =
+    let q = accepted-passes c z in
+    let l = as-list c q in
+    let n = places (c .events) 48 in
+    let e = accepted-last (rooms c) l n (sym (ran c q .number) ∙ z) in
+    let w = last-sound (rooms c) l n .within in
+    record {
+      number = z;
+      took = refl;
+      some = e .0;
+      last = l .token (taken c - 1);
+      found = l .within (taken c - 1) (omega arith);
+      end = e .1;
+    }
+
+-- "an accepted stream of A tokens gives at most 3A - 4 events", StreamEnd counted
+pub at-most : (c : Call) (A : ℕ) → Accepted c A → after c .answer .count + 4 ≤ 3 * A
 unfolding by-rules taken
-at-most c z = go (judged c) where
-  go : Judged c → after c .answer .count + 4 ≤ 3 * taken c
-  go (refused n k e f h) = absurd (first-not n (first-range n k) (omega arith)) where
-    first-not : (n : ℕ) → ((20 ≤ n) × (n ≤ 21)) ⊎ ((26 ≤ n) × (n ≤ 27)) → n ≡ 0 → ⊥
-    first-not n (inl h) s = omega arith
-    first-not n (inr h) s = omega arith
-  go (passed-on q r) = rw (r .count) (accepted-3A-4 (rooms c) (as-list c q) (places (c .events) 48) (sym (r .number) ∙ z))
+at-most c A a =
+    let q = accepted-passes c (a .number) in
+    let r = ran c q in
+    let h = accepted-3A-4 (rooms c) (as-list c q) (places (c .events) 48) (sym (r .number) ∙ a .number) in
+    omega (arith, h, a .took, r .count)
 
 -- "for each A from 2 to 65,536 some stream gives exactly that many": StreamStart, A - 2 times DocumentStart, StreamEnd
 starts-sound : (size k : ℕ) → all-sound size (starts k) ≡ true

@@ -1,5 +1,5 @@
 -- The words of the demands: a call of the run, what it leaves, and the numbers of document 01.
-use Prim.Native.Nat.{ℕ, _*_, _+_, _<_, _≤_}
+use Prim.Native.Nat.{ℕ, _*_, _+_, _-_, _<_, _≤_}
 use mathlib.Core.Path.{_≡_}
 use mathlib.Core.Bool.{Bool, false, _&&_, _||_}
 use mathlib.Core.List.{List, [], _∷_}
@@ -7,9 +7,12 @@ use lib.Dec.{eqb, leb}
 use lib.ListN.{length, getD}
 use Rattle.places.specs.Words.{encode}
 use Rattle.places.specs.Places.{places}
+use Rattle.records.specs.Tokens.{readAt}
+use Rattle.records.specs.declared.tokens.Token.{Token}
+use Rattle.records.specs.declared.tokens.Read.the-variants as read
 use Rattle.records.specs.Events.{numbersOf}
 use Rattle.records.specs.declared.events.Event.{Event}
-use Rattle.rules.specs.Rules.Words.{Given}
+use Rattle.rules.specs.Rules.Words.{Given, STREAM-END}
 use Rattle.rules.specs.Run.{Rooms, Outcome, fresh, run}
 use Rattle.rules.specs.Lists.{in-bytes}
 use Rattle.rules.specs.Starred.{Pick, Case}
@@ -93,6 +96,15 @@ Each P (x ∷ xs) = P x × Each P xs
 -- the tokens that a run took
 unfoldable pub taken : Call → ℕ
 taken c = by-rules c .last .at
+
+-- an accepted stream of A tokens, StreamEnd counted: the run took A of the tokens lent, and the last of them is the StreamEnd
+pub record Accepted (c : Call) (A : ℕ) : Type 0 where
+  pub number : after c .answer .number ≡ 0
+  pub took : taken c ≡ A
+  pub some : 1 ≤ A
+  pub last : Token
+  pub found : readAt (c .tokens) (length (c .text)) (A - 1) ≡ read.Token last
+  pub end : last .kind ≡ STREAM-END
 
 -- the same call with no less room of any kind
 pub record Grown (c d : Call) : Type 0 where

@@ -13,7 +13,7 @@ use Rattle.rules.specs.Run.{Rooms, room, short, limit, Model, small, fre
 use Rattle.rules.specs.Lists.{Listed, Reached, start, on}
 use Rattle.rules.specs.declared.State.{State}
 use Rattle.rules.proofs.WordLaws.{own, refused, wants, next}
-use Rattle.rules.proofs.Weights.{weigh, value-at, put, told, Facts, lawful}
+use Rattle.rules.proofs.Weights.{weigh, value-at, closed-at, put, told, Facts, lawful}
 use Rattle.rules.proofs.Sizes.{named-length, handled-length}
 use Rattle.rules.proofs.Steps.{Fair, fair-machine}
 
@@ -22,10 +22,10 @@ abbrev pub owed : List State → ℕ
 owed [] = 0
 owed (p ∷ stack) = weigh p .owes + owed stack
 
--- a state inside a document stands over another one, and none of those waits
+-- a state inside a document stands over another one, and none of those waits or is End
 abbrev pub Stands : State → List State → Type 0
 Stands state [] = weigh state .level ≡ 0
-Stands state (p ∷ stack) = (weigh state .level ≡ 1) × (weigh p .waits ≡ 0) × Stands p stack
+Stands state (p ∷ stack) = (weigh state .level ≡ 1) × (weigh p .waits + weigh p .ends ≡ 0) × Stands p stack
 
 -- a machine after e events, in this state at place a over these open states, with x anchors and y handles
 pub record Sound-at {g : Given} (l : Listed g) (e : ℕ) (state : State) (a : ℕ) (stack : List State) (x y : ℕ) : Type 0 where
@@ -33,6 +33,7 @@ pub record Sound-at {g : Given} (l : Listed g) (e : ℕ) (state : State) (a : �
   pub deep : weigh state .rises + length stack ≤ a
   pub stands : Stands state stack
   pub within : weigh state .waits + a ≤ g .count
+  pub closed : weigh state .ends ≤ closed-at l a
   pub anchors : x ≤ a
   pub handles : y ≤ a
 
@@ -75,6 +76,7 @@ module _ {r : Rooms} {g : Given} (l : Listed g) {e : ℕ} (m : Model) where
     deep = omega arith;
     stands = stands-swap (m .state) state stack (f .leveled) (h .stands);
     within = f .within;
+    closed = f .closed;
     anchors = i;
     handles = j;
   }
@@ -83,6 +85,7 @@ module _ {r : Rooms} {g : Given} (l : Listed g) {e : ℕ} (m : Model) where
     deep = omega arith;
     stands = (f .leveled .1, f .leveled .2, stands-swap (m .state) p stack (f .leveled .0) (h .stands));
     within = f .within;
+    closed = f .closed;
     anchors = i;
     handles = j;
   }
@@ -92,6 +95,7 @@ module _ {r : Rooms} {g : Given} (l : Listed g) {e : ℕ} (m : Model) where
     deep = omega (arith, lawful p (value-at l (c .at)));
     stands = h .stands .2;
     within = omega arith;
+    closed = omega arith;
     anchors = i;
     handles = j;
   }

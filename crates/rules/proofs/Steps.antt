@@ -16,7 +16,7 @@ use Rattle.rules.specs.Lists.{Listed}
 use Rattle.rules.specs.declared.State.{State}
 use Rattle.rules.specs.declared.State.the-variants as s
 use Rattle.rules.proofs.WordLaws.{Each, refused, next, each-if, each-push, each-look, past-le, each-directives, taken, each-first, each-node}
-use Rattle.rules.proofs.Weights.{weigh, at-value, value-at, value-range, value-two, value-not, put, told, Facts, lawful}
+use Rattle.rules.proofs.Weights.{weigh, at-value, value-at, when, when-so, value-range, value-two, value-not, put, told, Facts, lawful}
 use Rattle.rules.proofs.Sizes.{declare-length}
 
 -- what the machine holds is no more than the tokens taken
@@ -39,15 +39,7 @@ over-lift (w.Above p) = 1
 
 abbrev Over-levels : w.Over → ℕ → Type 0
 Over-levels w.Here v = v ≡ 1
-Over-levels (w.Above p) v = (weigh p .level ≡ v) × (weigh p .waits ≡ 0)
-
--- n where it is so
-abbrev when : Bool → ℕ → ℕ
-when true n = n
-when false n = 0
-
-when-so : {t : Bool} (n : ℕ) → t ≡ true → when t n ≡ n
-when-so {t} n e = subst (λ (b : Bool). when b n ≡ n) (sym e) refl
+Over-levels (w.Above p) v = (weigh p .level ≡ v) × (weigh p .waits + weigh p .ends ≡ 0)
 
 when-le : (t : Bool) (n : ℕ) → when t n ≤ n
 when-le true n = omega arith
@@ -102,8 +94,8 @@ module _ {g : Given} (l : Listed g) (m : Small) where
       → weigh state .level ≡ 1 → weigh state .rises ≡ 0 → weigh state .pays (value-at l at) ≤ more
       → weigh state .waits + at ≤ g .count → Facts l c b v (m .at) at (w.into over state) new 0
   unfolding w.into
-  facts-into w.Here state r h₁ h₂ h₃ h₄ = omega arith
-  facts-into (w.Above p) state r h₁ h₂ h₃ h₄ = omega arith
+  facts-into {at = at} w.Here state r h₁ h₂ h₃ h₄ = omega (arith, lawful state (value-at l at))
+  facts-into {at = at} (w.Above p) state r h₁ h₂ h₃ h₄ = omega (arith, lawful state (value-at l at))
 
   facts-pop : {c b v at new : ℕ} (over : w.Over) → Ready c b v at over 3 new → at ≤ g .count
       → Facts l c b v (m .at) at (w.pop-state over) new 0
@@ -112,11 +104,11 @@ module _ {g : Given} (l : Listed g) (m : Small) where
   facts-pop {at = at} (w.Above p) r h = omega (arith, lawful p (value-at l at))
 
   -- the state over which a node stands pays for an indentless sequence, and for a scalar that only has properties
-  fair-content : {c b v : ℕ} (at : ℕ) (over : w.Over) (block indentless : Bool) (p : w.Properties)
+  fair-content : {c b v : ℕ} (at : ℕ) (over : w.Over) (block indentless : Bool) (p : w.Properties) (t : Token) → at < g .count
       → Ready c b v at over (when indentless 4) (put (p .names)) → Ready c b v at over (when (p .any) 3) (put (p .names))
-      → Fair l m c b v (w.node-content g at over block indentless p)
-  unfolding w.node-content w.block-content
-  fair-content {c} {b} {v} at over block indentless p r q = each-look l _ _ λ h.
+      → Fair l m c b v (w.content at over block indentless p t)
+  unfolding w.content w.block-content
+  fair-content {c} {b} {v} at over block indentless p t h r q =
       let first : Ready c b v at over 0 (put (p .names)) = eased r (omega arith) in
       let into : (state : State) → weigh state .level ≡ 1 → weigh state .rises ≡ 0 → weigh state .pays (value-at l at) ≡ 0 → weigh state .waits ≡ 1
       → Facts l c b v (m .at) at (w.into over state) (put (p .names)) 0 =
@@ -144,10 +136,10 @@ module _ {g : Given} (l : Listed g) (m : Small) where
     fair-parse-node at over block indentless r = each-node l m at over block indentless
         (λ h. omega arith)
         (λ start end id h. fair-give _ _ _ (facts-pop over (eased r (omega arith)) (omega arith)))
-        (λ i p h. fair-content i over block indentless p
+        (λ i p t j h. fair-content i over block indentless p t h
         (eased r (omega (arith, put-le (p .names))))
         (eased r (omega (arith, when-le (p .any) 3, put-le (p .names)))))
-        (λ start. fair-content at over block indentless _ r (eased r (omega arith)))
+        (λ t h. fair-content at over block indentless _ t h r (eased r (omega arith)))
 
     fair-over : {c v : ℕ} (at : ℕ) (p : State) (block indentless : Bool) → at < g .count
         → Ready c b v at (w.Above p) (when indentless 4) 0
@@ -301,7 +293,7 @@ module _ {g : Given} (l : Listed g) (m : Small) where
     fair-document-start implicit =
         let f = past-le g (w.DOCUMENT-END ∷ w.BYTE-ORDER-MARK ∷ []) (g .count - m .at) (m .at) in
         each-look l _ _ λ h. each-if _
-        (λ e. fair-give _ _ _ (omega arith))
+        (λ e. fair-give _ _ _ (omega (arith, when-so 1 e)))
         λ e. each-if _
         (λ e. fair-explicit _ f)
         λ e. each-if _
