@@ -1,5 +1,6 @@
 pub mod StateLaws
 pub mod Starred
+pub mod Orders
 pub mod ListLaws
 pub mod WordLaws
 pub mod Weights

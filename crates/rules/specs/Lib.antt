@@ -4,5 +4,6 @@ pub mod Run
 pub mod Lists
 pub mod Needs
 pub mod Starred
+pub mod Orders
 pub mod Documents
 pub mod Walk
