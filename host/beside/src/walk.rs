@@ -1,4 +1,5 @@
-//! The walk of `load`, written by hand from document 01 (Port order 7), without a look at the proved one.
+//! The walk of `load`, written by hand from document 01 (Port order 7), by somebody who knew the definition in
+//! `crates/rules/specs/Walk.antt`.
 use records::{kinds::event, sizes::EVENT};
 
 /// As many collections may be open.
