@@ -10,6 +10,7 @@ otherwise") explains it, then the counts; ends with 1 if one is not explained th
 """
 import hashlib
 import json
+import os
 import pathlib
 import re
 import subprocess
@@ -17,6 +18,8 @@ import sys
 
 import yaml
 
+# What runs the command where the machine is not x86-64.
+EMULATOR = os.environ.get("SAPHYR_EMULATOR", "").split()
 LOADER = getattr(yaml, "CSafeLoader", yaml.SafeLoader)
 STYLES = {None: "plain", "": "plain", "'": "single", '"': "double", "|": "literal", ">": "folded"}
 
@@ -105,7 +108,7 @@ def pyyaml(text):
 
 
 def command(tool, path):
-    done = subprocess.run([tool, "events", "--json", "--", path], capture_output=True, check=False)
+    done = subprocess.run([*EMULATOR, tool, "events", "--json", "--", path], capture_output=True, check=False)
     if done.returncode not in (0, 1):
         sys.exit(done.stderr.decode())
     events = [json.loads(line) for line in done.stdout.decode().splitlines()]

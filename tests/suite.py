@@ -9,11 +9,14 @@ libyaml-pp-perl holds a copy, in `test-suite/yaml-test-suite-data`.) The suite w
 collections and `...`; events have numbers and no such marks, so these are taken out of its lines before they are compared.
 Prints a line for each test that comes out otherwise, then the counts; ends with 1 if there is one.
 """
+import os
 import pathlib
 import re
 import subprocess
 import sys
 
+# What runs the command where the machine is not x86-64.
+EMULATOR = os.environ.get("SAPHYR_EMULATOR", "").split()
 RIGHT = ("the suite's events", "refused, as it must be")
 
 
@@ -36,7 +39,7 @@ def plain(lines):
 
 
 def verdict(tool, folder):
-    done = subprocess.run([tool, "events", folder / "in.yaml"], capture_output=True, check=False)
+    done = subprocess.run([*EMULATOR, tool, "events", folder / "in.yaml"], capture_output=True, check=False)
     if done.returncode not in (0, 1):
         sys.exit(done.stderr.decode())
     said = done.stderr.decode().split("\n")[0]

@@ -11,10 +11,10 @@ fn main() {
     let named = env::var_os("SAPHYR_FACE").map(PathBuf::from);
     let library = named.unwrap_or_else(|| Path::new(MADE).to_owned());
     println!("cargo:rerun-if-changed={}", library.display());
-    let linkable = env::var("CARGO_CFG_TARGET_ARCH").is_ok_and(|arch| arch == "x86_64");
-    match library.canonicalize() {
-        Ok(library) if linkable => link(&library),
-        _ => {}
+    if env::var("CARGO_CFG_TARGET_ARCH").is_ok_and(|arch| arch != "x86_64") {
+        println!("cargo:warning=the proved library is for x86-64: tools/host.sh, called as cargo, builds for it");
+    } else if let Ok(library) = library.canonicalize() {
+        link(&library);
     }
 }
 

@@ -1,8 +1,9 @@
 //! The command `beside`.
-use std::process::{Command, Output};
+use emulated::command;
+use std::process::Output;
 
 fn beside(words: &[&str]) -> Output {
-    Command::new(env!("CARGO_BIN_EXE_beside")).args(words).output().expect("the command runs")
+    command(env!("CARGO_BIN_EXE_beside")).args(words).output().expect("the command runs")
 }
 
 fn message(words: &[&str]) -> String {

@@ -1,11 +1,11 @@
 //! The command `lists`.
 use std::io::Write;
 use std::path::PathBuf;
-use std::process::{Command, Output, Stdio};
+use std::process::{Output, Stdio};
 use std::{env, fs, process};
 
 fn lists(words: &[&str], input: &[u8]) -> Output {
-    let mut command = Command::new(env!("CARGO_BIN_EXE_lists"));
+    let mut command = emulated::command(env!("CARGO_BIN_EXE_lists"));
     command.args(words).stdin(Stdio::piped()).stdout(Stdio::piped()).stderr(Stdio::piped());
     let mut child = command.spawn().expect("the command starts");
     // A command that reads nothing may be gone already.

@@ -5,7 +5,8 @@ pub const LINKED: bool = cfg!(face);
 
 /// What to do where it is not.
 pub const MISSING: &str = "built without the proved library: make it with `rt staticlib face` in the top folder \
-    (it writes target/staticlib/libface.a, for x86-64 programs), then run this again; SAPHYR_FACE may name another";
+    (it writes target/staticlib/libface.a, for x86-64 programs), then run this again; SAPHYR_FACE may name another; \
+    where the machine is not x86-64, tools/host.sh, called as cargo, builds for it";
 
 /// The memory that a call borrows; `rooms` says how much is always enough.
 #[derive(Debug, Default)]

@@ -5,7 +5,8 @@
 //! and allocates nothing; [`rooms`] says in advance how much memory is always enough.
 //!
 //! The crate links `libface.a`, which `rt staticlib face` writes in the top folder. It builds without it too; then every
-//! run panics and names that command, and [`LINKED`] is false.
+//! run panics and names that command, and [`LINKED`] is false. The library is for x86-64: where the machine is not,
+//! `tools/host.sh`, called as cargo, builds for it and runs what it built under an emulator.
 //!
 //! ```
 //! use saphyr_events::{run, EventKind, Range, Settings, Style, Token, TokenList};

@@ -22,7 +22,7 @@ pub fn top() -> PathBuf {
 }
 
 pub fn command(words: &[&str]) -> Command {
-    let mut command = Command::new(env!("CARGO_BIN_EXE_saphyr-events"));
+    let mut command = emulated::command(env!("CARGO_BIN_EXE_saphyr-events"));
     command.args(words).current_dir(top());
     command
 }
