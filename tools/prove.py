@@ -183,11 +183,11 @@ def chained(place, own, needs, start, extra):
             steps.append(f"{law} refl {rest}")
         at = before
         pending += 1
-    if node and not leaf:
+    if node and leaf and re.search(r" \.node\d* ", leaf[0]):
         law = next(e[1:] for e in extra if e[0] == "=")
-        body = law + " _" * 5 + " " + node[0] + (" _" if law == "by-over" else "")
-        body = f"rw add-one ({body})" if node[1] else body
-        stands = f"inside _ _ _ {node[2]}"
+        made = f"rw add-one at ({leaf[0]})" if node[1] else leaf[0]
+        body = law + " _" * 5 + " " + node[0] + (" _" if law == "by-over" else "") + f" ({made})"
+        stands = f"rw ({leaf[0]}) (inside _ _ _ {node[2]})"
     else:
         stands = f"rw ({leaf[0]}) tt" if leaf else ""
         leaf += [f"← {path}" + " .before" * pending + f" .{e[1:]}" for e in extra if e[0] == "^"]

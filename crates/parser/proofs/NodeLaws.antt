@@ -31,13 +31,12 @@ use Rattle.rules.specs.Rules.{content, node-content, block-content, node, regis
 use Rattle.rules.specs.Run.{Rooms, limit, room, short}
 use Rattle.parser.specs.Machine.{Lent, given, small, rooms}
 use Rattle.parser.specs.Answers.{answer, refusing, refusedBy, moved, namesAfter, handlesAfter}
-use Rattle.parser.specs.Nodes.{namesOf, propertiesOf, named-answer, placed, placeOf, knownOf, behindOf, behind, Follows}
+use Rattle.parser.specs.Nodes.{namesOf, propertiesOf, named-answer, placed, placeOf, knownOf, behind-done, behind-content, behindOf, behind, Follows}
 use Rattle.parser.specs.Tags.{resolvedOf}
 use Rattle.parser.specs.declared.Machine.{Machine}
 use Rattle.parser.specs.declared.Step.{Step}
 use Rattle.parser.specs.declared.node.Properties.{Properties}
 use Rattle.parser.specs.declared.node.Behind.{Behind}
-use Rattle.parser.specs.declared.node.Behind.the-variants as b
 use Rattle.parser.specs.declared.node.Place.{Place}
 use Rattle.parser.specs.declared.node.Place.the-variants as place
 use Rattle.parser.specs.declared.node.Known.{Known}
@@ -116,10 +115,10 @@ placed-full found.Nothing n room e = go (ltb n room) refl e where
   go false h e = record { new = refl; full = ltb-false n room h }
 
 -- what stands behind properties stands in the list
-pub by-follows : (tokens : List ℕ) (size at : ℕ) (q : Properties) {z : Behind} → z ≡ behindOf (readAt tokens size at) at q → Follows tokens z
-unfolding behindOf
+pub by-follows : (tokens : List ℕ) (size at : ℕ) (q : Properties) {z : Behind} → z ≡ behindOf (readAt tokens size at) at q → Follows tokens (z .content)
+unfolding behindOf behind-done behind-content
 by-follows tokens size at q f = rw f (go (readAt tokens size at) refl) where
-  go : (y : Read) → readAt tokens size at ≡ y → Follows tokens (behindOf y at q)
+  go : (y : Read) → readAt tokens size at ≡ y → Follows tokens (behindOf y at q .content)
   go (read.Token t) e = inside tokens size at refl e
   go (read.Refused y) e = tt
 
@@ -147,19 +146,19 @@ module _ (x : Lent) (m : Machine) (w : Rooms) where
 
   -- behind its properties a node comes to what its content decides
   module _ (over : rules.Over) (block indentless : Bool) (at : ℕ) (q : Properties) (e : q .names ≡ namesAfter x m (namesOf (q .names))) where
-    pub by-content : (t : Token) → behind m over block indentless (b.Content at t q)
-        ≡ answer x m (limit w (content at over block indentless (propertiesOf q) t))
-    unfolding behind propertiesOf
-    by-content t =
-        ap (λ n. named-answer m n (content at over block indentless (propertiesOf q) t)) e ∙ sym (content-names at over block indentless (propertiesOf q) t)
+    pub by-content : {z : Behind} (t : Token) → z ≡ behind-content at t q
+        → behind m over block indentless (z .step) (z .content) ≡ answer x m (limit w (content at over block indentless (propertiesOf q) t))
+    unfolding behind behind-content propertiesOf
+    by-content t f =
+        rw f (ap (λ n. named-answer m n (content at over block indentless (propertiesOf q) t)) e ∙ sym (content-names at over block indentless (propertiesOf q) t))
 
     pub by-behind : {z : Behind} → z ≡ behindOf (readAt (x .tokens) (length (x .text)) at) at q
-        → behind m over block indentless z ≡ answer x m (limit w (node-content (given x) at over block indentless (propertiesOf q)))
-    unfolding node-content r.look r.seen given behind behindOf refusedBy answer limit refusing
+        → behind m over block indentless (z .step) (z .content) ≡ answer x m (limit w (node-content (given x) at over block indentless (propertiesOf q)))
+    unfolding node-content r.look r.seen given behind behind-done behindOf refusedBy answer limit refusing
     by-behind {z} f = rw f (go (readAt (x .tokens) (length (x .text)) at)) where
-      go : (y : Read) → behind m over block indentless (behindOf y at q)
+      go : (y : Read) → behind m over block indentless (behindOf y at q .step) (behindOf y at q .content)
           ≡ answer x m (limit w (r.seen y (content at over block indentless (propertiesOf q))))
-      go (read.Token t) = by-content t
+      go (read.Token t) = by-content t refl
       go (read.Refused y) = refl
 
   -- a tag that was resolved, and one that was not
@@ -219,10 +218,6 @@ pub place-for : (text names : List ℕ) (n room : ℕ) (name : Range) {q : Place
     → i ≡ placeFor (find text names 12 n name) n
 unfolding placeOf
 place-for text names n room name {q} {i} e f = sym (placed-at (find text names 12 n name) n room i (sym e ∙ f) .own)
-
-pub small-next : (x : Lent) (m : Machine) → small x m .next ≡ m .next
-unfolding small
-small-next x m = refl
 
 -- the same of handles in their places
 module _ (text tags : List ℕ) (n : ℕ) (name : Range) {q : Found} (e : q ≡ find text tags 16 n name) where

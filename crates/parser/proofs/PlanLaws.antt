@@ -17,12 +17,14 @@ use Rattle.rules.specs.declared.State.{State}
 use Rattle.rules.specs.declared.State.the-variants as s
 use Rattle.parser.specs.Machine.{Lent, given, small, rooms}
 use Rattle.parser.specs.Answers.{overOf, answer, refusing, decided}
-use Rattle.parser.specs.Plans.{opening, planned, turnOf, behindFirst, isFull}
+use Rattle.parser.specs.Plans.{opening, plan-node, planned, turnOf, behindFirst, isFull}
 use Rattle.parser.specs.declared.Machine.{Machine}
 use Rattle.parser.specs.declared.Over.{Over}
 use Rattle.parser.specs.declared.Over.the-variants as v
 use Rattle.parser.specs.declared.Step.{Step}
-use Rattle.parser.specs.declared.Plan.the-variants as plan
+use Rattle.parser.specs.declared.Step.the-variants as st
+use Rattle.parser.specs.declared.Plan.{Plan}
+use Rattle.parser.specs.declared.Wanted.the-variants as wanted
 use Rattle.parser.specs.declared.Turn.{Turn}
 use Rattle.parser.specs.declared.Turn.the-variants as t
 use Rattle.parser.proofs.By.{by-room, by-full}
@@ -80,15 +82,15 @@ module _ (x : Lent) (m : Machine) where
 
   -- a node whose first token was read
   module _ (at : ℕ) (block indentless : Bool) {q : Read} {t : Token} (e : q ≡ readAt (x .tokens) (length (x .text)) at) (f : q ≡ read.Token t) where
-    pub by-over : (p : State) → planned x m (plan.Node at t (v.Above p) block indentless)
+    pub by-over : {z : Plan} (p : State) → z ≡ plan-node at t (v.Above p) block indentless → planned x m (z .step) (z .node)
         ≡ answer x m (limit (rooms (x .terms)) (rules.parse-node-over (given x) (small x m) at p block indentless))
-    unfolding planned opening overOf decided rules.parse-node-over rules.parse-node look seen given
-    by-over p = rw (sym e ∙ f)
+    unfolding plan-node planned opening overOf decided rules.parse-node-over rules.parse-node look seen given
+    by-over p h = rw (h, sym e ∙ f)
 
-    pub by-here : planned x m (plan.Node at t v.Here block indentless)
+    pub by-here : {z : Plan} → z ≡ plan-node at t v.Here block indentless → planned x m (z .step) (z .node)
         ≡ answer x m (limit (rooms (x .terms)) (rules.parse-node (given x) (small x m) at rules.Here block indentless))
-    unfolding planned opening overOf decided rules.parse-node look seen given
-    by-here = rw (sym e ∙ f)
+    unfolding plan-node planned opening overOf decided rules.parse-node look seen given
+    by-here h = rw (h, sym e ∙ f)
 
   -- behind the token of a First state; one that cannot be read is refused when it is read again
   pub by-first : (w : Rooms) (a : Step) (first : Bool) (h : ℕ → Token → r.Decision) {i : ℕ}
@@ -152,18 +154,18 @@ module _ (x : Lent) (m : Machine) where
 
   -- a node that stands over a state for which there is no place, and one that has its place
   module _ (at : ℕ) (t : Token) (over : Over) (block indentless : Bool) {b : Bool} (e : b ≡ isFull (m .depth) (x .terms .states) over) where
-    pub full-node : b ≡ true → planned x m (plan.Node at t over block indentless) ≡ refusing 23 0
+    pub full-node : b ≡ true → planned x m st.Stuck (wanted.Node at t over block indentless) ≡ refusing 23 0
     unfolding planned opening overOf decided isFull rooms room short r.push-state small
     full-node f = go over (sym e ∙ f) where
-      go : (o : Over) → isFull (m .depth) (x .terms .states) o ≡ true → planned x m (plan.Node at t o block indentless) ≡ refusing 23 0
+      go : (o : Over) → isFull (m .depth) (x .terms .states) o ≡ true → planned x m st.Stuck (wanted.Node at t o block indentless) ≡ refusing 23 0
       go v.Here h = let z : _≡_ {A = ℕ} 0 1 = cc in absurd (omega arith)
       go (v.Above p) h = sym (by-full x m (rooms (x .terms)) (refusing 23 0) r.OpenPlace (m .depth) _ (leb-true (x .terms .states) (m .depth) h) refl)
 
     pub placed-node : b ≡ false
-        → planned x m (plan.Node at t over block indentless) ≡ decided x m (λ g m. rules.node-from g m at (overOf over) block indentless t)
+        → planned x m st.Stuck (wanted.Node at t over block indentless) ≡ decided x m (λ g m. rules.node-from g m at (overOf over) block indentless t)
     unfolding planned opening overOf decided isFull rooms room r.push-state small
     placed-node f = go over (sym e ∙ f) where
       go : (o : Over) → isFull (m .depth) (x .terms .states) o ≡ false
-          → planned x m (plan.Node at t o block indentless) ≡ decided x m (λ g m. rules.node-from g m at (overOf o) block indentless t)
+          → planned x m st.Stuck (wanted.Node at t o block indentless) ≡ decided x m (λ g m. rules.node-from g m at (overOf o) block indentless t)
       go v.Here h = refl
       go (v.Above p) h = sym (by-room x m (rooms (x .terms)) _ r.OpenPlace (m .depth) _ (leb-false (x .terms .states) (m .depth) h) refl)

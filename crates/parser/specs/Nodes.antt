@@ -25,7 +25,8 @@ use Rattle.parser.specs.declared.Step.{Step}
 use Rattle.parser.specs.declared.Step.the-variants as st
 use Rattle.parser.specs.declared.node.Properties.{Properties}
 use Rattle.parser.specs.declared.node.Behind.{Behind}
-use Rattle.parser.specs.declared.node.Behind.the-variants as b
+use Rattle.parser.specs.declared.node.Content.{Content}
+use Rattle.parser.specs.declared.node.Content.the-variants as c
 use Rattle.parser.specs.declared.node.Known.{Known}
 use Rattle.parser.specs.declared.node.Known.the-variants as k
 use Rattle.parser.specs.declared.node.Place.{Place}
@@ -80,24 +81,31 @@ named-answer m names (r.Refused number place) = refusing number place
 named-answer m names r.Unreachable = st.Stuck
 named-answer m names (r.Wants q n d) = st.Stuck
 
+-- behind the properties there is no content, or there is one
+unfoldable pub behind-done : Step → Behind
+behind-done step = record { step = step; content = c.Nothing }
+
+unfoldable pub behind-content : ℕ → Token → Properties → Behind
+behind-content at t q = record { step = st.Stuck; content = c.At at t q }
+
 -- the token at `at` behind properties
 unfoldable pub behindOf : Read → ℕ → Properties → Behind
-behindOf (read.Token t) at q = b.Content at t q
-behindOf (read.Refused e) at q = b.Done (refusedBy (read.Refused e))
+behindOf (read.Token t) at q = behind-content at t q
+behindOf (read.Refused e) at q = behind-done (refusedBy (read.Refused e))
 
 -- the step that a node comes to behind its properties
-unfoldable pub behind : Machine → rules.Over → Bool → Bool → Behind → Step
-behind m over block indentless (b.Content at t q) =
+unfoldable pub behind : Machine → rules.Over → Bool → Bool → Step → Content → Step
+behind m over block indentless step c.Nothing = step
+behind m over block indentless step (c.At at t q) =
     named-answer m (q .names) (rules.content at over block indentless (propertiesOf q) t)
-behind m over block indentless (b.Done step) = step
 
 -- a content stands in the list
-abbrev pub Follows : List ℕ → Behind → Type 0
-Follows tokens (b.Content at t q) = at < places tokens 32
-Follows tokens (b.Done step) = Unit
+abbrev pub Follows : List ℕ → Content → Type 0
+Follows tokens c.Nothing = Unit
+Follows tokens (c.At at t q) = at < places tokens 32
 
 -- what stands behind the properties comes to what the rule decides, whatever the node stands over
 abbrev pub Behinds : Lent → Machine → (rules.Over → Bool → Bool → r.Given → r.Small → r.Decision) → Behind → Type 0
 Behinds x m rule w =
-    ((over : rules.Over) (block indentless : Bool) → behind m over block indentless w ≡ decided x m (rule over block indentless))
-    × Follows (x .tokens) w
+    ((over : rules.Over) (block indentless : Bool) → behind m over block indentless (w .step) (w .content) ≡ decided x m (rule over block indentless))
+    × Follows (x .tokens) (w .content)

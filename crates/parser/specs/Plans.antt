@@ -5,6 +5,7 @@ use mathlib.Core.Bool.{Bool, true, false}
 use mathlib.Core.List.{List}
 use lib.Dec.{leb}
 use Rattle.places.specs.Places.{places}
+use Rattle.records.specs.declared.tokens.Token.{Token}
 use Rattle.records.specs.declared.tokens.Read.{Read}
 use Rattle.records.specs.declared.tokens.Read.the-variants as read
 use Rattle.rules.specs.Rules as rules
@@ -18,8 +19,10 @@ use Rattle.parser.specs.declared.Terms.{Terms}
 use Rattle.parser.specs.declared.Over.{Over}
 use Rattle.parser.specs.declared.Over.the-variants as v
 use Rattle.parser.specs.declared.Step.{Step}
+use Rattle.parser.specs.declared.Step.the-variants as st
 use Rattle.parser.specs.declared.Plan.{Plan}
-use Rattle.parser.specs.declared.Plan.the-variants as p
+use Rattle.parser.specs.declared.Wanted.{Wanted}
+use Rattle.parser.specs.declared.Wanted.the-variants as w
 use Rattle.parser.specs.declared.Turn.{Turn}
 use Rattle.parser.specs.declared.Turn.the-variants as t
 
@@ -28,26 +31,34 @@ unfoldable pub opening : r.Small → rules.Over → r.Decision → r.Decision
 opening m rules.Here d = d
 opening m (rules.Above p) d = r.push-state m d
 
+-- a plan with no node, and one with a node
+unfoldable pub plan-done : Step → Plan
+plan-done step = record { step = step; node = w.Nothing }
+
+unfoldable pub plan-node : ℕ → Token → Over → Bool → Bool → Plan
+plan-node at t over block indentless = record { step = st.Stuck; node = w.Node at t over block indentless }
+
 -- the step that a plan comes to
-unfoldable pub planned : Lent → Machine → Plan → Step
-planned x m (p.Done step) = step
-planned x m (p.Node at t over block indentless) =
+unfoldable pub planned : Lent → Machine → Step → Wanted → Step
+planned x m step w.Nothing = step
+planned x m step (w.Node at t over block indentless) =
     decided x m (λ g m. opening m (overOf over) (rules.node-from g m at (overOf over) block indentless t))
 
 -- a node stands in the list
-abbrev pub Stands : List ℕ → Plan → Type 0
-Stands tokens (p.Done step) = Unit
-Stands tokens (p.Node at t over block indentless) = at < places tokens 32
+abbrev pub Stands : List ℕ → Wanted → Type 0
+Stands tokens w.Nothing = Unit
+Stands tokens (w.Node at t over block indentless) = at < places tokens 32
 
 -- a plan that comes to what the rule decides
 abbrev pub Planned : Lent → Machine → (r.Given → r.Small → r.Decision) → Plan → Type 0
-Planned x m rule plan = (planned x m plan ≡ decided x m rule) × Stands (x .tokens) plan
+Planned x m rule plan = (planned x m (plan .step) (plan .node) ≡ decided x m rule) × Stands (x .tokens) (plan .node)
 
 -- the same whatever the places and terms are
 abbrev pub Plans : List ℕ → List ℕ → Machine → (r.Given → r.Small → r.Decision) → Plan → Type 0
 Plans tokens text m rule plan =
-    ((names tags : List ℕ) (terms : Terms) → planned (lent tokens text names tags terms) m plan ≡ decided (lent tokens text names tags terms) m rule)
-    × Stands tokens plan
+    ((names tags : List ℕ) (terms : Terms)
+    → planned (lent tokens text names tags terms) m (plan .step) (plan .node) ≡ decided (lent tokens text names tags terms) m rule)
+    × Stands tokens (plan .node)
 
 -- what each state calls
 unfoldable pub turnOf : State → Turn

@@ -21,7 +21,7 @@ impl Machine {
         let Read::Token(t) = read else {
             return crate::declined(read);
         };
-        Plan::Node(at, t, Over::Here, true, false)
+        Plan::node(at, t, Over::Here, true, false)
     }
 
     pub(crate) fn block_sequence_entry(self, tokens: &[u8], text: &[u8], first: bool) -> Plan
@@ -44,7 +44,7 @@ impl Machine {
             if kinds::ends_entry(u.kind) {
                 return self.give(next, State::BlockSequenceEntry, crate::empty_scalar(t));
             }
-            return Plan::Node(next, u, Over::Above(State::BlockSequenceEntry), true, false);
+            return Plan::node(next, u, Over::Above(State::BlockSequenceEntry), true, false);
         }
         crate::decline(12, t.start)
     }
@@ -66,7 +66,7 @@ impl Machine {
             if kinds::ends_indentless(u.kind) {
                 return self.give(next, State::IndentlessSequenceEntry, crate::empty_scalar(t));
             }
-            return Plan::Node(
+            return Plan::node(
                 next,
                 u,
                 Over::Above(State::IndentlessSequenceEntry),
@@ -94,7 +94,7 @@ impl Machine {
             if kinds::ends_pair(u.kind) {
                 return self.give(next, State::BlockMappingValue, crate::empty_scalar(u));
             }
-            return Plan::Node(next, u, Over::Above(State::BlockMappingValue), true, true);
+            return Plan::node(next, u, Over::Above(State::BlockMappingValue), true, true);
         }
         if t.kind == Token::VALUE {
             return self.give(at, State::BlockMappingValue, crate::empty_scalar(t));
@@ -122,7 +122,7 @@ impl Machine {
             if kinds::ends_pair(u.kind) {
                 return self.give(next, State::BlockMappingKey, crate::empty_scalar(t));
             }
-            return Plan::Node(next, u, Over::Above(State::BlockMappingKey), true, true);
+            return Plan::node(next, u, Over::Above(State::BlockMappingKey), true, true);
         }
         self.give(at, State::BlockMappingKey, crate::empty_scalar(t))
     }

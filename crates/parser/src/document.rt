@@ -115,14 +115,14 @@ impl Machine {
         }
         if kinds::opens_document(t.kind) {
             let step = self.explicit_document_start(tokens, text, names, tags, terms, at);
-            return Plan::Done(step);
+            return Plan::done(step);
         }
         if implicit {
             let step = self.document(terms, at, t, 0, State::BlockNode, Handles::Keep);
-            return Plan::Done(step);
+            return Plan::done(step);
         }
         let step = self.explicit_document_start(tokens, text, names, tags, terms, at);
-        Plan::Done(step)
+        Plan::done(step)
     }
 
     pub(crate) fn after_directives(
@@ -183,7 +183,7 @@ impl Machine {
         if kinds::no_content(t.kind) {
             return self.pop(at, crate::empty_scalar(t));
         }
-        Plan::Node(at, t, Over::Here, true, false)
+        Plan::node(at, t, Over::Here, true, false)
     }
 
     pub(crate) fn document_end(
@@ -204,9 +204,9 @@ impl Machine {
         if t.kind == Token::BYTE_ORDER_MARK {
             let next = past(tokens, text, at, false);
             let step = self.after_marks(tokens, text, names, tags, terms, t.start, next);
-            return Plan::Done(step);
+            return Plan::done(step);
         }
-        Plan::Done(self.document_end_at(tokens, text, names, tags, terms, at))
+        Plan::done(self.document_end_at(tokens, text, names, tags, terms, at))
     }
 
     // Behind a run of byte order marks, the first of which starts at `place`.

@@ -67,7 +67,7 @@ impl Machine {
             let pair = crate::plain(Event::MAPPING_START, t.start, t.end, 0);
             return self.give(at + 1, State::FlowSequenceEntryMappingKey, pair);
         }
-        Plan::Node(at, t, Over::Above(State::FlowSequenceEntry), false, false)
+        Plan::node(at, t, Over::Above(State::FlowSequenceEntry), false, false)
     }
 
     pub(crate) fn flow_sequence_entry_mapping_key(self, tokens: &[u8], text: &[u8]) -> Plan
@@ -83,7 +83,7 @@ impl Machine {
             return self.give(at + 1, State::FlowSequenceEntryMappingValue, key);
         }
         let over = Over::Above(State::FlowSequenceEntryMappingValue);
-        Plan::Node(at, t, over, false, false)
+        Plan::node(at, t, over, false, false)
     }
 
     pub(crate) fn flow_sequence_entry_mapping_value(self, tokens: &[u8], text: &[u8]) -> Plan
@@ -104,7 +104,7 @@ impl Machine {
             if kinds::ends_single_value(u.kind) {
                 return self.give(next, end, crate::empty_scalar(u));
             }
-            return Plan::Node(next, u, Over::Above(end), false, false);
+            return Plan::node(next, u, Over::Above(end), false, false);
         }
         let end = State::FlowSequenceEntryMappingEnd(t.end);
         self.give(at, end, crate::empty_scalar(t))
@@ -153,7 +153,7 @@ impl Machine {
             if kinds::ends_flow_key(u.kind) {
                 return self.give(next, State::FlowMappingValue, crate::empty_scalar(u));
             }
-            return Plan::Node(next, u, Over::Above(State::FlowMappingValue), false, false);
+            return Plan::node(next, u, Over::Above(State::FlowMappingValue), false, false);
         }
         if t.kind == Token::VALUE {
             return self.give(at, State::FlowMappingValue, crate::empty_scalar(t));
@@ -162,7 +162,7 @@ impl Machine {
             let end = crate::plain(Event::MAPPING_END, mark.start, mark.end, 0);
             return self.pop(at + 1, end);
         }
-        Plan::Node(
+        Plan::node(
             at,
             t,
             Over::Above(State::FlowMappingEmptyValue),
@@ -191,7 +191,7 @@ impl Machine {
             if kinds::ends_flow_value(u.kind) {
                 return self.give(next, State::FlowMappingKey, crate::empty_scalar(t));
             }
-            return Plan::Node(next, u, Over::Above(State::FlowMappingKey), false, false);
+            return Plan::node(next, u, Over::Above(State::FlowMappingKey), false, false);
         }
         self.give(at, State::FlowMappingKey, crate::empty_scalar(t))
     }

@@ -7,7 +7,7 @@ ghost use Rattle.records.specs.Tokens.{readAt};
 ghost use Rattle.rules.specs.Rules.{into, pop-state, state-machine};
 ghost use Rattle.parser.specs.Machine.{fresh, lent};
 ghost use Rattle.parser.specs.Answers.{refusing, refusedBy, goes, next, moved, overOf, decided};
-ghost use Rattle.parser.specs.Plans.{Planned, turnOf, behindFirst, isFull};
+ghost use Rattle.parser.specs.Plans.{plan-done, plan-node, Planned, turnOf, behindFirst, isFull};
 
 mod block;
 mod directives;
@@ -90,11 +90,17 @@ pub enum Over {
     Above(State),
 }
 
-// What a state decides.
-enum Plan {
-    Done(Step),
-    // A node is parsed: its place and first token, what it stands over, whether it stands in a block, and whether
-    // its content may be a sequence without indent.
+// What a state decides: a node is parsed or, without one, the step is taken. Side by side, since one place in memory
+// for either costs a tenth of the run.
+struct Plan {
+    step: Step,
+    node: Wanted,
+}
+
+enum Wanted {
+    Nothing,
+    // Its place and first token, what it stands over, whether it stands in a block, and whether its content may be a
+    // sequence without indent.
     Node(usize, Token, Over, bool, bool),
 }
 
@@ -165,15 +171,15 @@ fn refused(read: Read) -> Step
 
 // The same as plans.
 fn decline(number: u32, place: u32) -> Plan
-    ensures { λ r. ⌜ r ≡ Plan.Done (refusing number place) ⌝ }
+    ensures { λ r. ⌜ r ≡ plan-done (refusing number place) ⌝ }
 {
-    Plan::Done(refuse(number, place))
+    Plan::done(refuse(number, place))
 }
 
 fn declined(read: Read) -> Plan
-    ensures { λ r. ⌜ r ≡ Plan.Done (refusedBy read) ⌝ }
+    ensures { λ r. ⌜ r ≡ plan-done (refusedBy read) ⌝ }
 {
-    Plan::Done(refused(read))
+    Plan::done(refused(read))
 }
 
 // Behind the token that a First state takes. A bad one is not taken: it is refused when it is read.
@@ -222,6 +228,26 @@ fn empty_scalar(t: Token) -> Event
     plain(Event::SCALAR, t.start, t.end, 0)
 }
 
+impl Plan {
+    fn done(step: Step) -> Self
+        ensures { λ r. ⌜ r ≡ plan-done step ⌝ }
+    {
+        Plan {
+            step,
+            node: Wanted::Nothing,
+        }
+    }
+
+    fn node(at: usize, t: Token, over: Over, block: bool, indentless: bool) -> Self
+        ensures { λ r. ⌜ r ≡ plan-node at t over block indentless ⌝ }
+    {
+        Plan {
+            step: Step::Stuck,
+            node: Wanted::Node(at, t, over, block, indentless),
+        }
+    }
+}
+
 impl Machine {
     pub const FIRST_ID: u32 = 1;
 
@@ -243,8 +269,9 @@ impl Machine {
         ensures { λ r. ⌜ r ≡ decided (lent (now (tokens .entry)) (now (text .entry)) (now (names .entry)) (now (tags .entry)) terms) self (λ g m. state-machine g m (m .state)) ⌝ }
     {
         let plan = self.plan(tokens, text, names, tags, terms);
-        match plan {
-            Plan::Node(at, t, over, block, indentless) => {
+        let node = plan.node;
+        match node {
+            Wanted::Node(at, t, over, block, indentless) => {
                 if self.is_full(over, terms) {
                     return refuse(23, 0);
                 }
@@ -261,7 +288,10 @@ impl Machine {
                     indentless,
                 )
             }
-            Plan::Done(step) => step,
+            Wanted::Nothing => {
+                let step = plan.step;
+                step
+            }
         }
     }
 
@@ -301,7 +331,7 @@ impl Machine {
             Turn::FlowSequenceEntryMappingEnd(mark) => self.flow_sequence_entry_mapping_end(mark),
             Turn::FlowMappingKey(first) => self.flow_mapping_key(tokens, text, first),
             Turn::FlowMappingValue(empty) => self.flow_mapping_value(tokens, text, empty),
-            Turn::End => Plan::Done(Step::Stuck),
+            Turn::End => Plan::done(Step::Stuck),
         }
     }
 
@@ -334,19 +364,19 @@ impl Machine {
 
     // Goes to a state with an event.
     fn give(self, at: usize, state: State, event: Event) -> Plan
-        ensures { λ r. ⌜ r ≡ Plan.Done (next (goes self at state) event Open.Keep Names.Keep Handles.Keep) ⌝ }
+        ensures { λ r. ⌜ r ≡ plan-done (next (goes self at state) event Open.Keep Names.Keep Handles.Keep) ⌝ }
     {
         let m = self.goes(at, state);
-        Plan::Done(m.next(event, Open::Keep, Names::Keep, Handles::Keep))
+        Plan::done(m.next(event, Open::Keep, Names::Keep, Handles::Keep))
     }
 
     // Goes back to the last open state with an event.
     fn pop(self, at: usize, event: Event) -> Plan
-        ensures { λ r. ⌜ r ≡ Plan.Done (next (goes self at (self .state)) event Open.Pop Names.Keep Handles.Keep) ⌝ }
+        ensures { λ r. ⌜ r ≡ plan-done (next (goes self at (self .state)) event Open.Pop Names.Keep Handles.Keep) ⌝ }
     {
         let state = self.state;
         let m = self.goes(at, state);
-        Plan::Done(m.next(event, Open::Pop, Names::Keep, Handles::Keep))
+        Plan::done(m.next(event, Open::Pop, Names::Keep, Handles::Keep))
     }
 
     // A node begins a collection.

@@ -10,7 +10,7 @@ ghost use Rattle.rules.specs.Rules.{node-from, node-properties, alias, anchor-f
 ghost use Rattle.tables.specs.Anchors.{anchorsOf, named};
 ghost use Rattle.parser.specs.Machine.{lent};
 ghost use Rattle.parser.specs.Answers.{decided, moved, namesAfter, overOf};
-ghost use Rattle.parser.specs.Nodes.{namesOf, propertiesOf, bare, anchored, tagOnly, nodeEvent, knownOf, placeOf, named-answer, behindOf, Behinds};
+ghost use Rattle.parser.specs.Nodes.{namesOf, propertiesOf, bare, anchored, tagOnly, nodeEvent, knownOf, placeOf, named-answer, behind-done, behind-content, behindOf, Behinds};
 use crate::Machine;
 use crate::Names;
 use crate::Over;
@@ -41,10 +41,16 @@ pub struct Properties {
     pub names: Names,
 }
 
-// What comes behind the properties: the content's place and token.
-pub enum Behind {
-    Content(usize, Token, Properties),
-    Done(Step),
+// What comes behind the properties: a content or, without one, the step. Side by side, as in a plan.
+pub struct Behind {
+    pub step: Step,
+    pub content: Content,
+}
+
+pub enum Content {
+    Nothing,
+    // Its place and token, and what stands before it.
+    At(usize, Token, Properties),
 }
 
 // The id of a name.
@@ -158,9 +164,29 @@ fn content_at(tokens: &[u8], text: &[u8], at: usize, p: Properties) -> Behind
 {
     let read = tokens::read_token(tokens, text, at);
     let Read::Token(t) = read else {
-        return Behind::Done(crate::refused(read));
+        return Behind::done(crate::refused(read));
     };
-    Behind::Content(at, t, p)
+    Behind::content(at, t, p)
+}
+
+impl Behind {
+    fn done(step: Step) -> Self
+        ensures { λ r. ⌜ r ≡ behind-done step ⌝ }
+    {
+        Behind {
+            step,
+            content: Content::Nothing,
+        }
+    }
+
+    fn content(at: usize, t: Token, p: Properties) -> Self
+        ensures { λ r. ⌜ r ≡ behind-content at t p ⌝ }
+    {
+        Behind {
+            step: Step::Stuck,
+            content: Content::At(at, t, p),
+        }
+    }
 }
 
 impl Machine {
@@ -185,9 +211,13 @@ impl Machine {
             return self.alias(tokens, text, names, tags, terms, at + 1, over, t);
         }
         let behind = self.properties(tokens, text, names, tags, terms, at, t);
-        match behind {
-            Behind::Content(i, u, p) => self.node_content(i, u, over, block, indentless, p),
-            Behind::Done(step) => step,
+        let content = behind.content;
+        match content {
+            Content::At(i, u, p) => self.node_content(i, u, over, block, indentless, p),
+            Content::Nothing => {
+                let step = behind.step;
+                step
+            }
         }
     }
 
@@ -236,7 +266,7 @@ impl Machine {
         if t.kind == Token::TAG {
             return self.tag_first(tokens, text, names, tags, terms, at + 1, t);
         }
-        Behind::Content(at, t, bare(t.start))
+        Behind::content(at, t, bare(t.start))
     }
 
     // An anchor `t`, then perhaps a tag.
@@ -255,18 +285,18 @@ impl Machine {
         let name = t.a;
         let place = find_place(text, names, self.names, terms.names, name);
         let Place::At(i) = place else {
-            return Behind::Done(crate::refuse(24, 0));
+            return Behind::done(crate::refuse(24, 0));
         };
         let read = tokens::read_token(tokens, text, at);
         let Read::Token(u) = read else {
-            return Behind::Done(crate::refused(read));
+            return Behind::done(crate::refused(read));
         };
         let next = at + 1;
         let p = anchored(bare(t.start), t, i, self.next);
         if u.kind == Token::TAG {
             return self.tag_second(tokens, text, names, tags, terms, next, p, u);
         }
-        Behind::Content(at, u, p)
+        Behind::content(at, u, p)
     }
 
     // A tag `u` behind an anchor.
@@ -287,7 +317,7 @@ impl Machine {
         let handle = u.a;
         let resolved = tag::resolve_tag(text, tags, self.handles, handle);
         let Resolved::Tagged(source, prefix) = resolved else {
-            return Behind::Done(crate::refuse(13, p.start));
+            return Behind::done(crate::refuse(13, p.start));
         };
         content_at(tokens, text, at, tagged(p, u, source, prefix))
     }
@@ -308,18 +338,18 @@ impl Machine {
         let handle = t.a;
         let resolved = tag::resolve_tag(text, tags, self.handles, handle);
         let Resolved::Tagged(source, prefix) = resolved else {
-            return Behind::Done(crate::refuse(13, t.start));
+            return Behind::done(crate::refuse(13, t.start));
         };
         let read = tokens::read_token(tokens, text, at);
         let Read::Token(u) = read else {
-            return Behind::Done(crate::refused(read));
+            return Behind::done(crate::refused(read));
         };
         let next = at + 1;
         let p = tagged(bare(t.start), t, source, prefix);
         if u.kind == Token::ANCHOR {
             return self.anchor_second(tokens, text, names, tags, terms, next, p, u);
         }
-        Behind::Content(at, u, p)
+        Behind::content(at, u, p)
     }
 
     // An anchor `u` behind a tag.
@@ -339,7 +369,7 @@ impl Machine {
         let name = u.a;
         let place = find_place(text, names, self.names, terms.names, name);
         let Place::At(i) = place else {
-            return Behind::Done(crate::refuse(24, 0));
+            return Behind::done(crate::refuse(24, 0));
         };
         content_at(tokens, text, at, anchored(p, u, i, self.next))
     }

@@ -108,10 +108,9 @@ fn lent(
     if e > answer.len() {
         return false;
     }
-    let f = frame::frame_at(file, at);
     judged(
         file,
-        f,
+        frame::frame_at(file, at),
         &mut events[..a],
         &mut states[..b],
         &mut anchors[..c],

@@ -1,5 +1,4 @@
 use borrow.Author.Needs.{needs}
-use native.Mathlib.Numerals.{add-one}
 use Rattle.parser.proofs.decline.Statement.{statement}
 use Rattle.parser.proofs.decline.Tie as tie
 
@@ -7,5 +6,5 @@ pub decline-spec : {M : Type 1} → statement M
 decline-spec =
     tie.close
     (tie.spec
-    (search needs)
-    (λ c. simp (add-one, c .refuse .ensures)))
+    (search needs) (search needs)
+    (λ c. simp (c .done .ensures, c .before .refuse .ensures)))

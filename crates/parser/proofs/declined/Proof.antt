@@ -1,5 +1,4 @@
 use borrow.Author.Needs.{needs}
-use native.Mathlib.Numerals.{add-one}
 use Rattle.parser.proofs.declined.Statement.{statement}
 use Rattle.parser.proofs.declined.Tie as tie
 
@@ -7,5 +6,5 @@ pub declined-spec : {M : Type 1} → statement M
 declined-spec =
     tie.close
     (tie.spec
-    (search needs)
-    (λ c. simp (add-one, c .refused .ensures)))
+    (search needs) (search needs)
+    (λ c. simp (c .done .ensures, c .before .refused .ensures)))

@@ -6,7 +6,7 @@ use Rattle.parser.proofs.PlanLaws.{by-pair, by-no-pair, by-first}
 use native.Mathlib.Numerals.{add-one}
 use Rattle.parser.specs.Answers.{decided, answer, refusedBy, refusing, stateAfter, openAfter, namesAfter, handlesAfter}
 use Rattle.parser.specs.Machine.{lent}
-use Rattle.parser.specs.Plans.{planned}
+use Rattle.parser.specs.Plans.{planned, plan-done}
 use Rattle.rules.specs.Rules.{flow-mapping-key, flow-mapping-at}
 use Rattle.rules.specs.Rules.Words.{give, among}
 use Rattle.rules.specs.Run.{limit}
@@ -14,7 +14,7 @@ use Rattle.parser.proofs.Machine.flow_mapping_key.Statement.{statement}
 use Rattle.parser.proofs.Machine.flow_mapping_key.Tie as tie
 
 pub flow-mapping-key-spec : {M : Type 1} → statement M
-unfolding flow-mapping-key flow-mapping-at decided answer limit lent give refusedBy refusing stateAfter openAfter namesAfter handlesAfter among planned
+unfolding flow-mapping-key flow-mapping-at decided answer limit lent give refusedBy refusing stateAfter openAfter namesAfter handlesAfter among planned plan-done
 flow-mapping-key-spec =
     tie.close
     (tie.spec

@@ -6,7 +6,7 @@ use Rattle.parser.proofs.PlanLaws.{by-item, by-no-item, by-first}
 use native.Mathlib.Numerals.{add-one}
 use Rattle.parser.specs.Answers.{decided, answer, refusedBy, refusing, stateAfter, openAfter, namesAfter, handlesAfter}
 use Rattle.parser.specs.Machine.{lent}
-use Rattle.parser.specs.Plans.{planned}
+use Rattle.parser.specs.Plans.{planned, plan-done}
 use Rattle.rules.specs.Rules.{flow-sequence-entry, flow-sequence-at}
 use Rattle.rules.specs.Rules.Words.{give, among}
 use Rattle.rules.specs.Run.{limit}
@@ -14,7 +14,7 @@ use Rattle.parser.proofs.Machine.flow_sequence_entry.Statement.{stateme
 use Rattle.parser.proofs.Machine.flow_sequence_entry.Tie as tie
 
 pub flow-sequence-entry-spec : {M : Type 1} → statement M
-unfolding flow-sequence-entry flow-sequence-at decided answer limit lent give refusedBy refusing stateAfter openAfter namesAfter handlesAfter among planned
+unfolding flow-sequence-entry flow-sequence-at decided answer limit lent give refusedBy refusing stateAfter openAfter namesAfter handlesAfter among planned plan-done
 flow-sequence-entry-spec =
     tie.close
     (tie.spec

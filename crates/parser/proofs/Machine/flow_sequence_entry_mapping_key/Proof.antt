@@ -6,7 +6,7 @@ use Rattle.parser.proofs.PlanLaws.{by-over}
 use native.Mathlib.Numerals.{add-one}
 use Rattle.parser.specs.Answers.{decided, answer, refusedBy, refusing, stateAfter, openAfter, namesAfter, handlesAfter}
 use Rattle.parser.specs.Machine.{small, lent}
-use Rattle.parser.specs.Plans.{planned}
+use Rattle.parser.specs.Plans.{planned, plan-done, plan-node}
 use Rattle.rules.specs.Rules.{flow-sequence-entry-mapping-key}
 use Rattle.rules.specs.Rules.Words.{give, among}
 use Rattle.rules.specs.Run.{limit}
@@ -14,7 +14,7 @@ use Rattle.parser.proofs.Machine.flow_sequence_entry_mapping_key.Statem
 use Rattle.parser.proofs.Machine.flow_sequence_entry_mapping_key.Tie as tie
 
 pub flow-sequence-entry-mapping-key-spec : {M : Type 1} → statement M
-unfolding flow-sequence-entry-mapping-key small decided answer limit lent give refusedBy refusing stateAfter openAfter namesAfter handlesAfter among planned
+unfolding flow-sequence-entry-mapping-key small decided answer limit lent give refusedBy refusing stateAfter openAfter namesAfter handlesAfter among planned plan-done plan-node
 flow-sequence-entry-mapping-key-spec =
     tie.close
     (tie.spec
@@ -33,8 +33,10 @@ flow-sequence-entry-mapping-key-spec =
     let c4 = c3 .before .before in
     let c5 = c4 .before .before in
     ((λ _ _ _. by-look _ _ _ _ _ _ (c5 .read-token .ensures) (c4 .read .given .1) (by-yes _ _ _ _ _ _ _ (c3 .ends-single-key .ensures) (c2 .if1 .taken) (simp (add-one, c .give .ensures, c1 .empty-scalar .ensures)))), rw (c .give .ensures) tt))
+    (search needs)
     (λ c.
     let c1 = c .before in
-    let c2 = c1 .before .before in
+    let c2 = c1 .before in
     let c3 = c2 .before .before in
-    ((λ _ _ _. by-look _ _ _ _ _ _ (c3 .read-token .ensures) (c2 .read .given .1) (by-no _ _ _ _ _ _ _ (c1 .ends-single-key .ensures) (c .if1 .left) (by-over _ _ _ _ _ (c3 .read-token .ensures) (c2 .read .given .1) _))), inside _ _ _ (c3 .read-token .ensures) (c2 .read .given .1))))
+    let c4 = c3 .before .before in
+    ((λ _ _ _. by-look _ _ _ _ _ _ (c4 .read-token .ensures) (c3 .read .given .1) (by-no _ _ _ _ _ _ _ (c2 .ends-single-key .ensures) (c1 .if1 .left) (by-over _ _ _ _ _ (c4 .read-token .ensures) (c3 .read .given .1) _ (c .node .ensures)))), rw (c .node .ensures) (inside _ _ _ (c4 .read-token .ensures) (c3 .read .given .1)))))

@@ -1,5 +1,4 @@
 use borrow.Author.Needs.{needs}
-use native.Mathlib.Numerals.{add-one}
 use Rattle.parser.proofs.Machine.give.Statement.{statement}
 use Rattle.parser.proofs.Machine.give.Tie as tie
 
@@ -7,7 +6,8 @@ pub give-spec : {M : Type 1} → statement M
 give-spec =
     tie.close
     (tie.spec
-    (search needs) (search needs)
+    (search needs) (search needs) (search needs)
     (λ c.
     let c1 = c .before in
-    simp (add-one, c .next .ensures, c1 .goes .ensures)))
+    let c2 = c1 .before in
+    simp (c .done .ensures, c1 .next .ensures, c2 .goes .ensures)))

@@ -24,15 +24,14 @@ parse-node-spec =
     let c1 = c .before in
     let c2 = c1 .before .before in
     let tokens = c2 .before .before .before .before .before .before .before .good .1 .0 in
-    omega (arith, (rw (c1 .behind .given .1) at (c2 .properties .ensures .1)), tokens))
+    omega (arith, (rw (c1 .content .given .1) at (c2 .properties .ensures .1)), tokens))
     (search needs)
     (λ c.
     let c1 = c .before .before in
     let c2 = c1 .before .before in
     let a = c2 .before .before .before .before .before .before .before .args in
-    by-not _ _ _ _ _ _ _ _ (c2 .before .if1 .left) (c .node-content .ensures ∙ (rw (c1 .behind .given .1) at (c2 .properties .ensures .0 (overOf (a .over)) (a .block) (a .indentless)))))
+    by-not _ _ _ _ _ _ _ _ (c2 .before .if1 .left) (c .node-content .ensures ∙ (rw (c1 .content .given .1) at (c2 .properties .ensures .0 (overOf (a .over)) (a .block) (a .indentless)))))
     (λ c.
-    let c1 = c .before in
-    let c2 = c1 .before .before in
+    let c2 = c .before .before in
     let a = c2 .before .before .before .before .before .before .before .args in
-    by-not _ _ _ _ _ _ _ _ (c2 .before .if1 .left) (rw (c1 .behind2 .given .1) at (c2 .properties .ensures .0 (overOf (a .over)) (a .block) (a .indentless)))))
+    by-not _ _ _ _ _ _ _ _ (c2 .before .if1 .left) (rw (c .enum-told .given .1) at (c2 .properties .ensures .0 (overOf (a .over)) (a .block) (a .indentless)))))

@@ -4,13 +4,13 @@ use mathlib.Core.List.{[]}
 use Rattle.parser.proofs.PlanLaws.{called, by-turn}
 use Rattle.parser.specs.Machine.{lent, small}
 use Rattle.parser.specs.Answers.{answer, decided}
-use Rattle.parser.specs.Plans.{planned}
+use Rattle.parser.specs.Plans.{planned, plan-done}
 use Rattle.rules.specs.Run.{limit}
 use Rattle.parser.proofs.Machine.plan.Statement.{statement}
 use Rattle.parser.proofs.Machine.plan.Tie as tie
 
 pub plan-spec : {M : Type 1} → statement M
-unfolding called decided answer limit lent small planned
+unfolding called decided answer limit lent small planned plan-done
 plan-spec =
     tie.close
     (tie.spec
@@ -18,6 +18,7 @@ plan-spec =
     (search needs) (search needs) (search needs) (search needs) (search needs) (search needs) (search needs) (search needs)
     (search needs) (search needs) (search needs) (search needs) (search needs) (search needs) (search needs) (search needs)
     (search needs) (search needs) (search needs) (search needs) (search needs) (search needs) (search needs) (search needs)
+    (search needs)
     (λ c.
     let c1 = c .before in
     (by-turn _ _ _ _ (c1 .before .before .turn-of .ensures) (c1 .enum-told .given .1) (c .stream-start .ensures .0 _ _ _), c .stream-start .ensures .1))
@@ -63,4 +64,6 @@ plan-spec =
     (λ c.
     let c1 = c .before .before in
     (by-turn _ _ _ _ (c1 .before .before .turn-of .ensures) (c1 .turn7 .given .1) (c .flow-mapping-value .ensures .0 _ _ _), c .flow-mapping-value .ensures .1))
-    (λ c. (by-turn _ _ _ _ (c .before .before .turn-of .ensures) (c .enum-told9 .given .1) refl, tt)))
+    (λ c.
+    let c1 = c .before in
+    (by-turn _ _ _ _ (c1 .before .before .turn-of .ensures) (c1 .enum-told9 .given .1) (rw (c .done .ensures) refl), rw (c .done .ensures) tt)))

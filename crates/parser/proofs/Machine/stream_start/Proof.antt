@@ -5,7 +5,7 @@ use Rattle.parser.proofs.By.{by-is, by-look, by-none, by-not}
 use native.Mathlib.Numerals.{add-one}
 use Rattle.parser.specs.Answers.{decided, answer, refusedBy, refusing, stateAfter, openAfter, namesAfter, handlesAfter}
 use Rattle.parser.specs.Machine.{small, lent}
-use Rattle.parser.specs.Plans.{planned}
+use Rattle.parser.specs.Plans.{planned, plan-done}
 use Rattle.rules.specs.Rules.{stream-start}
 use Rattle.rules.specs.Rules.Words.{give, among}
 use Rattle.rules.specs.Run.{limit}
@@ -13,7 +13,7 @@ use Rattle.parser.proofs.Machine.stream_start.Statement.{statement}
 use Rattle.parser.proofs.Machine.stream_start.Tie as tie
 
 pub stream-start-spec : {M : Type 1} → statement M
-unfolding stream-start small decided answer limit lent give refusedBy refusing stateAfter openAfter namesAfter handlesAfter among planned
+unfolding stream-start small decided answer limit lent give refusedBy refusing stateAfter openAfter namesAfter handlesAfter among planned plan-done
 stream-start-spec =
     tie.close
     (tie.spec

@@ -1,5 +1,4 @@
 use borrow.Author.Needs.{needs}
-use native.Mathlib.Numerals.{add-one}
 use Rattle.parser.specs.Nodes.{behindOf}
 use Rattle.parser.proofs.node.content_at.Statement.{statement}
 use Rattle.parser.proofs.node.content_at.Tie as tie
@@ -9,12 +8,13 @@ unfolding behindOf
 content-at-spec =
     tie.close
     (tie.spec
-    (search needs) (search needs) (search needs) (search needs)
+    (search needs) (search needs) (search needs) (search needs) (search needs)
     (λ c.
-    let c1 = c .before in
+    let c1 = c .before .before in
     let c2 = c1 .before .before in
-    simp (add-one, c .refused .ensures, c1 .enum-told .given .1, ← c2 .read-token .ensures))
+    simp (c .done .ensures, c .before .refused .ensures, c1 .enum-told .given .1, ← c2 .read-token .ensures))
+    (search needs)
     (λ c.
-    let c1 = c .before in
+    let c1 = c .before .before in
     let c2 = c1 .before .before in
-    simp (add-one, c1 .read .given .1, ← c2 .read-token .ensures)))
+    simp (c .content .ensures, c1 .read .given .1, ← c2 .read-token .ensures)))
