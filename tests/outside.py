@@ -36,9 +36,11 @@ EXPLAINED = [
     ("h", THEIRS, r"did not find expected node content", r"[\[{,] *::"),
     ("i", THEIRS, r"parsing a flow mapping", r"[{,][^,}]*\n[^,}]*:"),
     ("j", THEIRS, r"expected <document start>", r"^--- [|>]\n\S"),
-    ("k", OURS, r"by the scanner: invalid indentation$", r"[\[{]"),
+    ("k", OURS, r"by the scanner: invalid indentation( in flow construct)?$", r"[\[{]"),
     ("l", OURS, r"by the scanner: invalid indentation in quoted scalar$", r"['\"]"),
     ("m", DIFFER, r"'style': '(literal|folded)'", r"[^\n]\Z"),
+    ("n", THEIRS, r"while scanning a tag", r"[\[{,] *!\S*[\]},]"),
+    ("o", THEIRS, r"found character that cannot start any token", r"^ *[-?:]\t"),
 ]
 
 
