@@ -289,6 +289,7 @@ impl Machine {
                 )
             }
             Wanted::Nothing => {
+                // By a let, here and in `parse_node`: as fields they take 2 in 100 more of the run's instructions.
                 let step = plan.step;
                 step
             }
