@@ -5,7 +5,7 @@ use mathlib.Core.List.{List, [], _∷_}
 use lib.Dec.{eqb, ltb}
 use lib.ListN.{length}
 use Rattle.places.specs.Places.{stored}
-use Rattle.run.specs.Run.{Left, runs}
+use Rattle.run.specs.Run.{answer-size, Left, runs}
 use Rattle.run.specs.declared.Answer.{Answer}
 use Rattle.load.specs.Load.{loaded}
 use Rattle.load.specs.declared.Answer as load
@@ -38,7 +38,7 @@ returned l answer =
 -- 28 touches nothing
 unfoldable pub saphyr-run : List ℕ → List ℕ → ℕ → ℕ → List ℕ → List ℕ → List ℕ → List ℕ → List ℕ → Faced
 saphyr-run tokens text keep forget events states anchors handles answer =
-    cond (ltb (length answer) 12) (faced 28 events states anchors handles answer)
+    cond (ltb (length answer) answer-size) (faced 28 events states anchors handles answer)
     (returned (runs tokens text (record { keep = on keep; forget = on forget }) events states anchors handles) answer)
 
 -- what the walk leaves: the number that it returns, and the answer buffer
@@ -54,4 +54,4 @@ unfoldable pub said : load.Answer → List ℕ → Walked
 said a answer = walked (a .number) (stored answer 0 (a .number ∷ a .count ∷ a .place % 2 ^ 32 ∷ []))
 
 unfoldable pub saphyr-load : List ℕ → List ℕ → Walked
-saphyr-load events answer = cond (ltb (length answer) 12) (walked 28 answer) (said (loaded events) answer)
+saphyr-load events answer = cond (ltb (length answer) answer-size) (walked 28 answer) (said (loaded events) answer)

@@ -1,10 +1,11 @@
 // The run and the walk of `load` by the C convention, over byte buffers alone. include/saphyr_events.h declares them.
 ghost use mathlib.Core.Path.{_≡_};
 ghost use Rattle.face.specs.Face.{faced, saphyr-run, walked, saphyr-load};
+use run::Answer;
 use run::Settings;
 
-// The answer takes 12 bytes: number, count and place.
-const ANSWER: usize = 12;
+// What an answer takes.
+const ROOM: usize = Answer::SIZE;
 
 // An answer buffer with less room.
 const NO_ANSWER: u32 = 28;
@@ -23,7 +24,7 @@ pub extern "C" fn saphyr_run(
 ) -> u32
     ensures { λ r. ⌜ faced r (now (events .exit)) (now (states .exit)) (now (anchors .exit)) (now (handles .exit)) (now (answer .exit)) ≡ saphyr-run (now (tokens .entry)) (now (text .entry)) keep forget (now (events .entry)) (now (states .entry)) (now (anchors .entry)) (now (handles .entry)) (now (answer .entry)) ⌝ }
 {
-    if answer.len() < ANSWER {
+    if answer.len() < ROOM {
         return NO_ANSWER;
     }
     let settings = Settings {
@@ -40,7 +41,7 @@ pub extern "C" fn saphyr_run(
 pub extern "C" fn saphyr_load(events: &[u8], answer: &mut [u8]) -> u32
     ensures { λ r. ⌜ walked r (now (answer .exit)) ≡ saphyr-load (now (events .entry)) (now (answer .entry)) ⌝ }
 {
-    if answer.len() < ANSWER {
+    if answer.len() < ROOM {
         return NO_ANSWER;
     }
     let given = load::load(events);

@@ -6,26 +6,28 @@ use Prim.Native.Nat.{ℕ, suc, _+_, _-_, _≤_, _<_, _%_, max}
 use native.Mathlib.Omega.{arith}
 use lib.ListN.{length}
 use borrow.Author.Tests.{eq-eqb, ne-eqb, lt-ltb, le-ltb}
+use Rattle.records.specs.Events.{event-size}
+use Rattle.records.specs.Says.{Goes, Number}
 use Rattle.rules.specs.Walk.{Open, inside, between, after, outside, over, ended, to, enter, begin, within, lead, walk, finish}
 use Rattle.rules.specs.Walk as k
 use Rattle.load.specs.Load.{count, kindAt, from, answered, said, loaded}
-use Rattle.load.specs.Parts.{Further, onto, Node, Collection, Sequence, Mapping, Document}
+use Rattle.load.specs.Parts.{partSays, Further, onto, Node, Collection, Sequence, Mapping, Document}
 use Rattle.load.specs.declared.Part.{Part}
 use Rattle.load.specs.declared.Part.the-variants.{Next, Refused}
 use Rattle.load.proofs.KindLaws.{there, leads, stops, cannot, said-at, from-none}
 
 -- a part behind one event
-further-more : (bs : List ℕ) (at : ℕ) (r : Part) → at < count bs → Further bs (at + 1) r → Further bs at r
+further-more : (bs : List ℕ) (at : ℕ) (r : Part) → at < count bs → Further bs (at + 1) (partSays r) → Further bs at (partSays r)
 further-more bs at (Next j) h f = (omega (arith, f .0), f .1)
 further-more bs at (Refused m j) h f = omega arith
 
 -- a part behind another
-further-then : (bs : List ℕ) (at i : ℕ) (r : Part) → at ≤ i → i ≤ max at (count bs) → Further bs i r → Further bs at r
+further-then : (bs : List ℕ) (at i : ℕ) (r : Part) → at ≤ i → i ≤ max at (count bs) → Further bs i (partSays r) → Further bs at (partSays r)
 further-then bs at i (Next j) h l f = (omega (arith, f .0), f .1)
 further-then bs at i (Refused m j) h l f = omega arith
 
 -- the events left fall with each part
-pub falls : (bs : List ℕ) (i : ℕ) {j : ℕ} {r : Part} → Further bs i r → r ≡ Next j → count bs - j < count bs - i
+pub falls : (bs : List ℕ) (i : ℕ) {j : ℕ} {r : Part} → Further bs i (partSays r) → r ≡ Next j → count bs - j < count bs - i
 falls bs i {j = j} {r = Next n} f q = let s : n ≡ j = cc in omega (arith, f .0, f .1)
 falls bs i {r = Refused m n} f q = let z : _≡_ {A = ℕ} 0 1 = cc in absurd (omega arith)
 
@@ -90,8 +92,8 @@ module _ {bs : List ℕ} {at left kind : ℕ} (is : kind ≡ kindAt bs at) where
 
 -- one entry of a collection: a node, or a pair of nodes
 pub record Entry (x : Open) (bs : List ℕ) (i left : ℕ) (r : Part) : Type 0 where
-  pub further : Further bs i r
-  pub reads : (o : List Open) → suc (length o + left) ≡ 1000 → walk (inside (x ∷ o)) (from bs i) ≡ onto bs (inside (x ∷ o)) r
+  pub further : Further bs i (partSays r)
+  pub reads : (o : List Open) → suc (length o + left) ≡ 1000 → walk (inside (x ∷ o)) (from bs i) ≡ onto bs (inside (x ∷ o)) (partSays r)
 
 -- the entries from `at` to i are read
 pub record Been (x : Open) (bs : List ℕ) (at left i : ℕ) : Type 0 where
@@ -147,7 +149,7 @@ module _ {bs : List ℕ} {i left kind : ℕ} (is : kind ≡ kindAt bs i) where
 
   -- a key of a mapping leads to its value
   module _ (h : kind ≡ 10 → ⊥) {r : Part} (key : Node bs i left r) where
-    key-reads : (o : List Open) → suc (length o + left) ≡ 1000 → walk (inside (k.key ∷ o)) (from bs i) ≡ onto bs (inside (k.value ∷ o)) r
+    key-reads : (o : List Open) → suc (length o + left) ≡ 1000 → walk (inside (k.key ∷ o)) (from bs i) ≡ onto bs (inside (k.value ∷ o)) (partSays r)
     unfolding within
     key-reads o l = key .reads (k.key ∷ o) (omega arith) (rw (← is, ne-eqb kind 10 h))
 
@@ -157,14 +159,14 @@ module _ {bs : List ℕ} {i left kind : ℕ} (is : kind ≡ kindAt bs i) where
 
     pub pair : {v : ℕ} {s : Part} → r ≡ Next v → Node bs v left s → Entry k.key bs i left s
     unfolding within
-    pair {v = v} {s = s} q value = let f : Further bs i (Next v) = rw q at (key .further) in record {
+    pair {v = v} {s = s} q value = let f : Further bs i (Goes v) = rw q at (key .further) in record {
       further = further-then bs i v s (omega (arith, f .0)) (omega (arith, f .1)) (value .further);
       reads = λ o l. key-reads o l ∙ rw q (value .reads (k.value ∷ o) (omega arith) refl);
     }
 
 -- a document
 inner : (bs : List ℕ) (at : ℕ) {kind : ℕ} {r : Part} → kind ≡ kindAt bs at → kind ≡ 3 → Node bs (at + 1) 1000 r
-    → walk between (from bs at) ≡ onto bs after r
+    → walk between (from bs at) ≡ onto bs after (partSays r)
 unfolding lead within
 inner bs at is opens node = leads bs at between (inside []) (there bs at is (λ z. omega arith)) (rw (← is, opens)) ∙ node .reads [] refl refl
 
@@ -186,7 +188,7 @@ module _ {bs : List ℕ} {at kind : ℕ} (is : kind ≡ kindAt bs at) where
     module _ {j next : ℕ} (q : r ≡ Next j) (then : next ≡ kindAt bs j) where
       pub document-open : (next ≡ 4 → ⊥) → Document bs at (Refused 30 j)
       unfolding lead finish
-      document-open h = let f : Further bs (at + 1) (Next j) = rw q at (node .further) in record {
+      document-open h = let f : Further bs (at + 1) (Goes j) = rw q at (node .further) in record {
         further = omega (arith, f .1);
         reads = λ z. rw q at (inner bs at is opens node) ∙ cannot bs j after refl (rw (← then, ne-eqb next 4 h));
       }
@@ -195,7 +197,7 @@ module _ {bs : List ℕ} {at kind : ℕ} (is : kind ≡ kindAt bs at) where
       unfolding lead
       document-end e =
           let l = there bs j then (λ z. omega arith) in
-          let f : Further bs (at + 1) (Next j) = rw q at (node .further) in
+          let f : Further bs (at + 1) (Goes j) = rw q at (node .further) in
           record {
             further = (omega (arith, f .0), omega (arith, l));
             reads = λ z. rw q at (inner bs at is opens node) ∙ leads bs j after between l (rw (← then, e));
@@ -207,9 +209,9 @@ pub record Read (bs : List ℕ) (i : ℕ) : Type 0 where
   pub reads : walk outside (from bs 0) ≡ walk between (from bs i)
 
 -- the whole list
-pub uneven : (bs : List ℕ) → (length bs % 48 ≡ 0 → ⊥) → answered 20 0 ≡ loaded bs
+pub uneven : (bs : List ℕ) → (length bs % event-size ≡ 0 → ⊥) → answered 20 0 ≡ loaded bs
 unfolding loaded
-uneven bs h = rw (ne-eqb (length bs % 48) 0 h)
+uneven bs h = rw (ne-eqb (length bs % event-size) 0 h)
 
 pub started : {bs : List ℕ} {kind : ℕ} → kind ≡ kindAt bs 0 → kind ≡ 1 → Read bs 1
 unfolding lead
@@ -218,10 +220,10 @@ started {bs = bs} is e = let l = there bs 0 is (λ z. omega arith) in record {
   reads = leads bs 0 outside between l (rw (← is, e));
 }
 
-module _ (bs : List ℕ) (whole : length bs % 48 ≡ 0) where
+module _ (bs : List ℕ) (whole : length bs % event-size ≡ 0) where
   loaded-as : (m i : ℕ) → said (count bs) (walk outside (from bs 0)) ≡ answered m i → answered m i ≡ loaded bs
   unfolding loaded
-  loaded-as m i e = rw (eq-eqb (length bs % 48) 0 whole) (sym e)
+  loaded-as m i e = rw (eq-eqb (length bs % event-size) 0 whole) (sym e)
 
   pub not-started : {kind : ℕ} → kind ≡ kindAt bs 0 → (kind ≡ 1 → ⊥) → answered 30 0 ≡ loaded bs
   unfolding lead finish
@@ -230,17 +232,17 @@ module _ (bs : List ℕ) (whole : length bs % 48 ≡ 0) where
 
   module _ {i kind : ℕ} (b : Read bs i) (is : kind ≡ kindAt bs i) where
     module _ (more : kind ≡ 2 → ⊥) {r : Part} (document : Document bs i r) where
-      document-reads : walk outside (from bs 0) ≡ onto bs between r
+      document-reads : walk outside (from bs 0) ≡ onto bs between (partSays r)
       document-reads = b .reads ∙ document .reads (λ z. more (is ∙ z))
 
       pub read-more : {j : ℕ} → r ≡ Next j → Read bs j
       read-more {j = j} q =
-          let f : Further bs i (Next j) = rw q at (document .further) in
+          let f : Further bs i (Goes j) = rw q at (document .further) in
           record { in-bounds = f .1; reads = rw q at document-reads }
 
       pub not-read : {m j : ℕ} → r ≡ Refused m j → answered m j ≡ loaded bs
       not-read {m = m} {j = j} q =
-          let f : Further bs i (Refused m j) = rw q at (document .further) in
+          let f : Further bs i (Number m j) = rw q at (document .further) in
           loaded-as m j (said-at bs m j _ (omega (arith, f, b .in-bounds)) (rw q at document-reads))
 
     module _ (end : kind ≡ 2) where

@@ -5,13 +5,13 @@ use mathlib.Core.List.{List}
 use lib.Dec.{eqb}
 use lib.ListN.{length}
 use Rattle.places.specs.Places.{places}
-use Rattle.records.specs.Events.{eventAt, eventsOf}
+use Rattle.records.specs.Events.{event-size, eventAt, eventsOf}
 use Rattle.rules.specs.Walk.{kinds, outside, Walked, passed, refused, walk}
 use Rattle.load.specs.declared.Answer.{Answer}
 
 -- how many events there are
 abbrev pub count : List ℕ → ℕ
-count bs = places bs 48
+count bs = places bs event-size
 
 -- the kind of an event; 0 where there is no such event
 unfoldable pub kindAt : List ℕ → ℕ → ℕ
@@ -30,4 +30,4 @@ said n passed = answered 0 0
 said n (refused m rest) = answered m (n - length rest)
 
 unfoldable pub loaded : List ℕ → Answer
-loaded bs = cond (eqb (length bs % 48) 0) (said (count bs) (walk outside (from bs 0))) (answered 20 0)
+loaded bs = cond (eqb (length bs % event-size) 0) (said (count bs) (walk outside (from bs 0))) (answered 20 0)

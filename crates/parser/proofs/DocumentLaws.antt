@@ -8,7 +8,7 @@ use borrow.Author.Tests.{le-leb, lt-leb, ne-eqb, ltb-true, ltb-false}
 use lib.Dec.{leb, ltb}
 use lib.ListN.{length}
 use Rattle.places.specs.Places.{places}
-use Rattle.records.specs.Tokens.{readAt, refused}
+use Rattle.records.specs.Tokens.{token-size, readAt, refused}
 use Rattle.records.specs.declared.tokens.Read.{Read}
 use Rattle.records.specs.declared.tokens.Read.the-variants as read
 use Rattle.records.proofs.TokenLaws as t
@@ -98,14 +98,14 @@ past-unset x ks (suc n) at = rw (past-unset x ks n (suc at))
 
 module _ (x : Lent) (m : Machine) where
   pub start-past : (implicit : Bool)
-      → decided x m (λ g s. document-start-at g s implicit (past (unset (x .tokens) (x .text)) (marks true) (places (x .tokens) 32 - m .at) (m .at))) ≡ decided x m (λ g s. document-start g s implicit)
+      → decided x m (λ g s. document-start-at g s implicit (past (unset (x .tokens) (x .text)) (marks true) (places (x .tokens) token-size - m .at) (m .at))) ≡ decided x m (λ g s. document-start g s implicit)
   unfolding decided document-start marks given small
-  start-past implicit = rw (past-unset x (7 ∷ 8 ∷ []) (places (x .tokens) 32 - m .at) (m .at))
+  start-past implicit = rw (past-unset x (7 ∷ 8 ∷ []) (places (x .tokens) token-size - m .at) (m .at))
 
   pub end-past : (place at : ℕ)
-      → decided x m (λ g m. after-marks g place (past (unset (x .tokens) (x .text)) (marks false) (places (x .tokens) 32 - at) at)) ≡ answer x m (limit (rooms (x .terms)) (after-marks (given x) place (past (given x) (8 ∷ []) (given x .count - at) at)))
+      → decided x m (λ g m. after-marks g place (past (unset (x .tokens) (x .text)) (marks false) (places (x .tokens) token-size - at) at)) ≡ answer x m (limit (rooms (x .terms)) (after-marks (given x) place (past (given x) (8 ∷ []) (given x .count - at) at)))
   unfolding decided marks given
-  end-past place at = rw (past-unset x (8 ∷ []) (places (x .tokens) 32 - at) at)
+  end-past place at = rw (past-unset x (8 ∷ []) (places (x .tokens) token-size - at) at)
 
 -- a record that is no token has no kind
 none : (ks : List ℕ) (number place : ℕ) (r : Read) → r ≡ refused number place → passes ks r ≡ true → ⊥
@@ -114,12 +114,12 @@ none ks number place (read.Token t) e h = let z : _≡_ {A = ℕ} 0 1 = cc in ab
 none ks number place (read.Refused q) e h = let z : _≡_ {A = ℕ} 0 1 = cc in absurd (omega arith)
 
 module _ (tokens text ks : List ℕ) (at : ℕ) where
-  pub past-on : at < places tokens 32 → passes ks (readAt tokens (length text) at) ≡ true
-      → past (unset tokens text) ks (places tokens 32 - at) at ≡ past (unset tokens text) ks (places tokens 32 - suc at) (suc at)
+  pub past-on : at < places tokens token-size → passes ks (readAt tokens (length text) at) ≡ true
+      → past (unset tokens text) ks (places tokens token-size - at) at ≡ past (unset tokens text) ks (places tokens token-size - suc at) (suc at)
   unfolding past unset in-bytes if_then_else_
-  past-on h e = go (places tokens 32 - at) (omega arith) where
-    go : (n : ℕ) → n ≡ suc (places tokens 32 - suc at)
-        → past (unset tokens text) ks n at ≡ past (unset tokens text) ks (places tokens 32 - suc at) (suc at)
+  past-on h e = go (places tokens token-size - at) (omega arith) where
+    go : (n : ℕ) → n ≡ suc (places tokens token-size - suc at)
+        → past (unset tokens text) ks n at ≡ past (unset tokens text) ks (places tokens token-size - suc at) (suc at)
     go n q = rw (q, e)
 
   pub past-end : (n : ℕ) → passes ks (readAt tokens (length text) at) ≡ false → past (unset tokens text) ks n at ≡ at
@@ -127,8 +127,8 @@ module _ (tokens text ks : List ℕ) (at : ℕ) where
   past-end zero e = refl
   past-end (suc n) e = rw e
 
-  pub passes-inside : passes ks (readAt tokens (length text) at) ≡ true → at < places tokens 32
-  passes-inside e = go (ltb at (places tokens 32)) refl where
-    go : (b : Bool) → ltb at (places tokens 32) ≡ b → at < places tokens 32
-    go true q = ltb-true at (places tokens 32) q
-    go false q = absurd (none ks 14 _ (readAt tokens (length text) at) (t.past-end tokens (length text) at (ltb-false at (places tokens 32) q)) e)
+  pub passes-inside : passes ks (readAt tokens (length text) at) ≡ true → at < places tokens token-size
+  passes-inside e = go (ltb at (places tokens token-size)) refl where
+    go : (b : Bool) → ltb at (places tokens token-size) ≡ b → at < places tokens token-size
+    go true q = ltb-true at (places tokens token-size) q
+    go false q = absurd (none ks 14 _ (readAt tokens (length text) at) (t.past-end tokens (length text) at (ltb-false at (places tokens token-size) q)) e)

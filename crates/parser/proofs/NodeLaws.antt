@@ -24,6 +24,8 @@ use Rattle.tables.proofs.AnchorLaws as anchor-laws
 use Rattle.tables.proofs.HandleLaws as handle-laws
 use Rattle.tables.proofs.TableLaws.{length-table}
 use Rattle.records.proofs.TokenLaws.{inside}
+use Rattle.tables.specs.Anchors.{anchor-size}
+use Rattle.tables.specs.Handles.{handle-size}
 use Rattle.rules.specs.Rules as rules
 use Rattle.rules.specs.Rules.Words as r
 use Rattle.rules.specs.Rules.Words.{if_then_else_, first, hit?, Hit, Miss, Got}
@@ -68,7 +70,7 @@ module _ {A : Type 0} (p : A → Bool) (f : ℕ → A) where
     go false e ih = ih e
 
 -- the same of anchors in their places
-module _ (text names : List ℕ) (n : ℕ) (name : Range) {q : Found} (e : q ≡ find text names 12 n name) where
+module _ (text names : List ℕ) (n : ℕ) (name : Range) {q : Found} (e : q ≡ find text names anchor-size n name) where
   pub anchor-none : q ≡ found.Nothing → first (anchors.named text name) (anchors.anchorsOf names n) ≡ Miss
   unfolding anchors.anchorsOf
   anchor-none h = first-none (anchors.named text name) (anchors.anchorAt names) 0 n (sym (anchor-laws.looked text names n name) ∙ sym e ∙ h)
@@ -188,7 +190,7 @@ module _ (x : Lent) (m : Machine) (w : Rooms) where
 module _ (x : Lent) (m : Machine) (a : Step) (t : Token) (d : r.Decision) {q : Place}
     (e : q ≡ placeOf (x .text) (x .names) (m .names) (x .terms .names) (t .a)) where
   abbrev q′ : Found
-  q′ = find (x .text) (x .names) 12 (m .names) (t .a)
+  q′ = find (x .text) (x .names) anchor-size (m .names) (t .a)
 
   -- the rule's own table has as many anchors as are in use
   count : length (anchors.anchorsOf (x .names) (m .names)) ≡ m .names
@@ -215,12 +217,12 @@ module _ (x : Lent) (m : Machine) (a : Step) (t : Token) (d : r.Decision) {q : P
 
 -- the place is the name's own, else the next
 pub place-for : (text names : List ℕ) (n room : ℕ) (name : Range) {q : Place} {i : ℕ} → q ≡ placeOf text names n room name → q ≡ place.At i
-    → i ≡ placeFor (find text names 12 n name) n
+    → i ≡ placeFor (find text names anchor-size n name) n
 unfolding placeOf
-place-for text names n room name {q} {i} e f = sym (placed-at (find text names 12 n name) n room i (sym e ∙ f) .own)
+place-for text names n room name {q} {i} e f = sym (placed-at (find text names anchor-size n name) n room i (sym e ∙ f) .own)
 
 -- the same of handles in their places
-module _ (text tags : List ℕ) (n : ℕ) (name : Range) {q : Found} (e : q ≡ find text tags 16 n name) where
+module _ (text tags : List ℕ) (n : ℕ) (name : Range) {q : Found} (e : q ≡ find text tags handle-size n name) where
   pub handle-none : q ≡ found.Nothing → first (handles.named text name) (handles.handlesOf tags n) ≡ Miss
   unfolding handles.handlesOf
   handle-none h = first-none (handles.named text name) (handles.handleAt tags) 0 n (sym (handle-laws.looked text tags n name) ∙ sym e ∙ h)

@@ -9,14 +9,14 @@ use borrow.Author.Tests.{eqb-true, ne-eqb, le-leb, lt-leb, ltb-true, ltb-false}
 use lib.Dec.{leb, ltb}
 use lib.ListN.{length}
 use Rattle.places.specs.Places.{places}
-use Rattle.records.specs.Tokens.{readAt}
+use Rattle.records.specs.Tokens.{token-size, readAt}
 use Rattle.records.specs.declared.tokens.Token.{Token}
 use Rattle.records.specs.declared.tokens.Refusal.{Refusal}
 use Rattle.records.specs.declared.tokens.Read.{Read}
 use Rattle.records.specs.declared.tokens.Read.the-variants as read
 use Rattle.records.proofs.TokenLaws.{inside}
 use Rattle.tables.specs.Lookup.{find}
-use Rattle.tables.specs.Handles.{named, handleAt, handlesOf}
+use Rattle.tables.specs.Handles.{handle-size, named, handleAt, handlesOf}
 use Rattle.tables.specs.declared.lookup.Found.{Found}
 use Rattle.tables.specs.declared.lookup.Found.the-variants as found
 use Rattle.tables.proofs.TableLaws.{length-table}
@@ -66,7 +66,7 @@ module _ (x : Lent) (m : Machine) (from : ℕ) where
   -- what one turn at `at` tells of an answer
   pub data Turned (o : Step) (at : ℕ) : Directive → Type 0 where
     done : (s : Step) → o ≡ s → Turned o at (d.Done s)
-    on : (v : Bool) (u : ℕ) → at < places (x .tokens) 32 → o ≡ onward (places (x .tokens) 32 - suc at) (suc at) v → u ≡ declared-to (suc at) → Turned o at (d.On v u)
+    on : (v : Bool) (u : ℕ) → at < places (x .tokens) token-size → o ≡ onward (places (x .tokens) token-size - suc at) (suc at) v → u ≡ declared-to (suc at) → Turned o at (d.On v u)
 
   turn-refused : (n at : ℕ) (version : Bool) (e : Refusal) → readAt (x .tokens) (length (x .text)) at ≡ read.Refused e → onward n at version ≡ st.Refused e
   unfolding parser-process-directives after-directives look seen given limit answer refusing
@@ -76,12 +76,12 @@ module _ (x : Lent) (m : Machine) (from : ℕ) where
   module _ (at : ℕ) (version : Bool) (used : ℕ) (t : Token) (behind : from ≤ at) (q : readAt (x .tokens) (length (x .text)) at ≡ read.Token t)
       (u : used ≡ declared-to at) where
     abbrev rest : Bool → r.Decision
-    rest v = parser-process-directives (given x) (small x m) from (places (x .tokens) 32 - suc at) (suc at) v (after-directives (given x) (small x m) from)
+    rest v = parser-process-directives (given x) (small x m) from (places (x .tokens) token-size - suc at) (suc at) v (after-directives (given x) (small x m) from)
 
     abbrev answered : r.Decision → Step
     answered d = answer x m (limit (rooms (x .terms)) d)
 
-    here : at < places (x .tokens) 32
+    here : at < places (x .tokens) token-size
     here = inside (x .tokens) (length (x .text)) at refl q
 
     -- the handle is kept or new, and there is room for all or not
@@ -91,7 +91,7 @@ module _ (x : Lent) (m : Machine) (from : ℕ) where
     turn-room L l true b e k = rw (k, ← l, b) (on version L here refl l)
     turn-room L l false b e k = rw (k, ← l, b) (done _ refl)
 
-    turn-counted : is t r.TAG-DIRECTIVE ≡ true → own (x .tokens) (x .text) (t .a) from (at - from) ≡ false → (f : Found) → f ≡ find (x .text) (x .tags) 16 (m .handles) (t .a)
+    turn-counted : is t r.TAG-DIRECTIVE ≡ true → own (x .tokens) (x .text) (t .a) from (at - from) ≡ false → (f : Found) → f ≡ find (x .text) (x .tags) handle-size (m .handles) (t .a)
         → Turned (answered (r.Wants r.HandlePlace (declared-to (suc at)) (rest version))) at (counted (x .terms .handles) f version used)
     unfolding counted
     turn-counted k o (found.At i) e =
@@ -108,7 +108,7 @@ module _ (x : Lent) (m : Machine) (from : ℕ) where
         (go (own (x .tokens) (x .text) (t .a) from (at - from)) refl)
       where
         go : (b : Bool) → own (x .tokens) (x .text) (t .a) from (at - from) ≡ b
-            → Turned (answered (if b then r.Refused 4 (t .start) else r.Wants r.HandlePlace (declared-to (suc at)) (rest version))) at (if b then d.Done (refusing 4 (t .start)) else counted (x .terms .handles) (find (x .text) (x .tags) 16 (m .handles) (t .a)) version used)
+            → Turned (answered (if b then r.Refused 4 (t .start) else r.Wants r.HandlePlace (declared-to (suc at)) (rest version))) at (if b then d.Done (refusing 4 (t .start)) else counted (x .terms .handles) (find (x .text) (x .tags) handle-size (m .handles) (t .a)) version used)
         go true o = done _ refl
         go false o = turn-counted k o _ refl
 
@@ -116,7 +116,7 @@ module _ (x : Lent) (m : Machine) (from : ℕ) where
     other n = u ∙ count-other (x .tokens) (x .text) from at (handlesOf (x .tags) (m .handles)) behind t q n
 
     -- what the rule does with the token
-    turn-token : Turned (onward (suc (places (x .tokens) 32 - suc at)) at version) at (directive-read x m from at version used (read.Token t))
+    turn-token : Turned (onward (suc (places (x .tokens) token-size - suc at)) at version) at (directive-read x m from at version used (read.Token t))
     unfolding parser-process-directives directive-read look seen given limit answer refusing decided if_then_else_
     turn-token = rw q (version? (is t r.VERSION-DIRECTIVE) refl) where
       reserved : (b : Bool) → is t r.TAG-DIRECTIVE ≡ false
@@ -140,15 +140,15 @@ module _ (x : Lent) (m : Machine) (from : ℕ) where
       version? false n = tag? (is t r.TAG-DIRECTIVE) refl
 
   pub turn : (at : ℕ) (version : Bool) (used : ℕ) → from ≤ at → used ≡ declared-to at
-      → Turned (onward (places (x .tokens) 32 - at) at version) at (directive x m from at version used)
+      → Turned (onward (places (x .tokens) token-size - at) at version) at (directive x m from at version used)
   unfolding directive directive-read
   turn at version used behind u = go (readAt (x .tokens) (length (x .text)) at) refl where
     go : (e : Read) → readAt (x .tokens) (length (x .text)) at ≡ e
-        → Turned (onward (places (x .tokens) 32 - at) at version) at (directive-read x m from at version used e)
-    go (read.Refused e) q = done _ (turn-refused (places (x .tokens) 32 - at) at version e q)
+        → Turned (onward (places (x .tokens) token-size - at) at version) at (directive-read x m from at version used e)
+    go (read.Refused e) q = done _ (turn-refused (places (x .tokens) token-size - at) at version e q)
     go (read.Token t) q =
-        let h : at < places (x .tokens) 32 = inside (x .tokens) (length (x .text)) at refl q in
-        let n : places (x .tokens) 32 - at ≡ suc (places (x .tokens) 32 - suc at) = omega arith in
+        let h : at < places (x .tokens) token-size = inside (x .tokens) (length (x .text)) at refl q in
+        let n : places (x .tokens) token-size - at ≡ suc (places (x .tokens) token-size - suc at) = omega arith in
         rw n (turn-token at version used t behind q u)
 
   -- the turn that answers, and the turn that goes on
@@ -157,7 +157,7 @@ module _ (x : Lent) (m : Machine) (from : ℕ) where
   turned-done o at (on v u h p k) q = let z : _≡_ {A = ℕ} 0 1 = cc in absurd (omega arith)
 
   pub turned-on : (o : Step) (at : ℕ) {e : Directive} {v : Bool} {u : ℕ} → Turned o at e → e ≡ d.On v u
-      → (at < places (x .tokens) 32) × (o ≡ onward (places (x .tokens) 32 - suc at) (suc at) v) × (u ≡ declared-to (suc at))
+      → (at < places (x .tokens) token-size) × (o ≡ onward (places (x .tokens) token-size - suc at) (suc at) v) × (u ≡ declared-to (suc at))
   turned-on o at (done s p) q = let z : _≡_ {A = ℕ} 0 1 = cc in absurd (omega arith)
   turned-on o at {v = v} {u = u} (on v′ u′ h p k) q =
       let e : v′ ≡ v = cc in
@@ -165,7 +165,7 @@ module _ (x : Lent) (m : Machine) (from : ℕ) where
       (h, rw e at p, rw f at k)
 
   -- the rule at the start, and what the loop starts with
-  pub turn-start : decided x m (λ g m. explicit-document-start g m from) ≡ onward (places (x .tokens) 32 - from) from false
+  pub turn-start : decided x m (λ g m. explicit-document-start g m from) ≡ onward (places (x .tokens) token-size - from) from false
   unfolding decided explicit-document-start given
   turn-start = refl
 

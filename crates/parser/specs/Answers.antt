@@ -3,10 +3,12 @@ use Prim.Native.Nat.{ℕ}
 use Rattle.records.specs.declared.events.Event.{Event}
 use Rattle.records.specs.declared.tokens.Read.{Read}
 use Rattle.records.specs.declared.tokens.Read.the-variants as read
+use Rattle.records.specs.Says.{Says, Goes, Number}
 use Rattle.tables.specs.Lookup.{find, placeFor}
+use Rattle.tables.specs.Anchors.{anchor-size}
 use Rattle.rules.specs.Rules as rules
 use Rattle.rules.specs.Rules.Words as r
-use Rattle.rules.specs.Run.{limit}
+use Rattle.rules.specs.Run.{limit, STUCK}
 use Rattle.rules.specs.declared.State.{State}
 use Rattle.parser.specs.Machine.{Lent, given, small, rooms}
 use Rattle.parser.specs.declared.Machine.{Machine}
@@ -53,7 +55,7 @@ openAfter r.Pop = o.Pop
 unfoldable pub namesAfter : Lent → Machine → r.Names → Names
 namesAfter x m r.NamesKept = n.Keep
 namesAfter x m (r.NamePut name) =
-    n.Put (placeFor (find (x .text) (x .names) 12 (m .names) name) (m .names)) (record { name = name; id = m .next })
+    n.Put (placeFor (find (x .text) (x .names) anchor-size (m .names) name) (m .names)) (record { name = name; id = m .next })
 namesAfter x m r.NamesForgotten = n.Forget
 
 unfoldable pub handlesAfter : r.Tags → Handles
@@ -76,3 +78,16 @@ answer x m (r.Wants p n d) = st.Stuck
 -- what a rule decides, with the places that are lent
 unfoldable pub decided : Lent → Machine → (r.Given → r.Small → r.Decision) → Step
 decided x m rule = answer x m (limit (rooms (x .terms)) (rule (given x) (small x m)))
+
+-- document 01's number and place for each case of a step: an event, a refusal, or a pop from no open state
+abbrev pub stepSays : Step → Says Event
+stepSays (st.Next s) = Goes (s .event)
+stepSays (st.Refused e) = Number (e .number) (e .place)
+stepSays st.Stuck = Number STUCK 0
+
+-- and of what a rule decides
+abbrev pub ruleSays : r.Decision → Says Event
+ruleSays (r.Next c) = Goes (c .event)
+ruleSays (r.Refused number place) = Number number place
+ruleSays r.Unreachable = Number STUCK 0
+ruleSays (r.Wants p n d) = Number STUCK 0

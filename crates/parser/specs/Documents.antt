@@ -6,12 +6,12 @@ use lib.Dec.{ltb, leb}
 use lib.ListN.{length}
 use Rattle.places.specs.Places.{places}
 use Rattle.records.specs.Names.{sameName}
-use Rattle.records.specs.Tokens.{readAt}
+use Rattle.records.specs.Tokens.{token-size, readAt}
 use Rattle.records.specs.declared.names.Range.{Range}
 use Rattle.records.specs.declared.tokens.Token.{Token}
 use Rattle.records.specs.declared.tokens.Read.{Read}
 use Rattle.records.specs.declared.tokens.Read.the-variants as read
-use Rattle.tables.specs.Handles.{named}
+use Rattle.tables.specs.Handles.{handle-size, named}
 use Rattle.tables.specs.Lookup.{find}
 use Rattle.tables.specs.declared.lookup.Found.{Found}
 use Rattle.tables.specs.declared.lookup.Found.the-variants as found
@@ -30,7 +30,7 @@ use Rattle.parser.specs.declared.directives.Directive.the-variants as d
 
 -- a list with no setting
 unfoldable pub unset : List ℕ → List ℕ → r.Given
-unset tokens text = in-bytes tokens (places tokens 32) text false false
+unset tokens text = in-bytes tokens (places tokens token-size) text false false
 
 -- byte order marks and, with `ends`, document ends
 unfoldable pub marks : Bool → List ℕ
@@ -56,7 +56,7 @@ unfoldable pub tag-directive : Lent → Machine → ℕ → ℕ → Bool → ℕ
 tag-directive x m from at version used t =
     if hit? (first (named (x .text) (t .a)) (declare (unset (x .tokens) (x .text)) (at - from) from []))
     then d.Done (refusing 4 (t .start))
-    else counted (x .terms .handles) (find (x .text) (x .tags) 16 (m .handles) (t .a)) version used
+    else counted (x .terms .handles) (find (x .text) (x .tags) handle-size (m .handles) (t .a)) version used
 
 -- what the record at `at` is behind the directives from `from` on
 unfoldable pub directive-read : Lent → Machine → ℕ → ℕ → Bool → ℕ → Read → Directive

@@ -3,7 +3,7 @@ use Prim.Native.Nat.{ℕ}
 use mathlib.Core.List.{List}
 use lib.ListN.{length}
 use Rattle.places.specs.Places.{places}
-use Rattle.records.specs.Tokens.{readAt}
+use Rattle.records.specs.Tokens.{token-size, readAt}
 use Rattle.tables.specs.Anchors.{anchorsOf}
 use Rattle.tables.specs.Handles.{handlesOf}
 use Rattle.rules.specs.Rules.Words.{Given, Small}
@@ -25,7 +25,7 @@ lent tokens text names tags terms = record { tokens = tokens; text = text; names
 
 unfoldable pub given : Lent → Given
 given x = record {
-  count = places (x .tokens) 32;
+  count = places (x .tokens) token-size;
   read = readAt (x .tokens) (length (x .text));
   text = x .text;
   keep = x .terms .keep;

@@ -10,10 +10,12 @@ use Rattle.records.specs.declared.tokens.Token.{Token}
 use Rattle.records.specs.declared.tokens.Read.{Read}
 use Rattle.records.specs.declared.tokens.Read.the-variants as read
 use Rattle.records.specs.declared.events.Event.{Event}
+use Rattle.records.specs.Tokens.{token-size}
 use Rattle.tables.specs.Lookup.{find}
 use Rattle.tables.specs.declared.anchors.Anchor.{Anchor}
 use Rattle.tables.specs.declared.lookup.Found.{Found}
 use Rattle.tables.specs.declared.lookup.Found.the-variants as found
+use Rattle.tables.specs.Anchors.{anchor-size}
 use Rattle.rules.specs.Rules as rules
 use Rattle.rules.specs.Rules.Words as r
 use Rattle.parser.specs.Machine.{Lent}
@@ -72,7 +74,7 @@ placed (found.At i) n room = p.At i
 placed found.Nothing n room = r.if_then_else_ (ltb n room) (p.At n) p.Full
 
 unfoldable pub placeOf : List ℕ → List ℕ → ℕ → ℕ → Range → Place
-placeOf text names n room name = placed (find text names 12 n name) n room
+placeOf text names n room name = placed (find text names anchor-size n name) n room
 
 -- a decision that wants nothing, with names as they are given
 unfoldable pub named-answer : Machine → Names → r.Decision → Step
@@ -102,7 +104,7 @@ behind m over block indentless step (c.At at t q) =
 -- a content stands in the list
 abbrev pub Follows : List ℕ → Content → Type 0
 Follows tokens c.Nothing = Unit
-Follows tokens (c.At at t q) = at < places tokens 32
+Follows tokens (c.At at t q) = at < places tokens token-size
 
 -- what stands behind the properties comes to what the rule decides, whatever the node stands over
 abbrev pub Behinds : Lent → Machine → (rules.Over → Bool → Bool → r.Given → r.Small → r.Decision) → Behind → Type 0

@@ -8,6 +8,7 @@ use Rattle.places.specs.Places.{places}
 use Rattle.records.specs.declared.tokens.Token.{Token}
 use Rattle.records.specs.declared.tokens.Read.{Read}
 use Rattle.records.specs.declared.tokens.Read.the-variants as read
+use Rattle.records.specs.Tokens.{token-size}
 use Rattle.rules.specs.Rules as rules
 use Rattle.rules.specs.Rules.Words as r
 use Rattle.rules.specs.declared.State.{State}
@@ -47,7 +48,7 @@ planned x m step (w.Node at t over block indentless) =
 -- a node stands in the list
 abbrev pub Stands : List ℕ → Wanted → Type 0
 Stands tokens w.Nothing = Unit
-Stands tokens (w.Node at t over block indentless) = at < places tokens 32
+Stands tokens (w.Node at t over block indentless) = at < places tokens token-size
 
 -- a plan that comes to what the rule decides
 abbrev pub Planned : Lent → Machine → (r.Given → r.Small → r.Decision) → Plan → Type 0

@@ -4,7 +4,7 @@ ghost use mathlib.Core.List.{[]};
 ghost use Prim.Native.Nat.{_-_};
 ghost use lib.ListN.{length};
 ghost use Rattle.places.specs.Places.{places};
-ghost use Rattle.records.specs.Tokens.{readAt};
+ghost use Rattle.records.specs.Tokens.{token-size, readAt};
 ghost use Rattle.rules.specs.Rules.Words.{if_then_else_};
 ghost use Rattle.rules.specs.Rules.{stream-start, passes, past, document-start, document-start-at, after-directives, document, document-content, document-end, after-marks, document-end-at, document-ends};
 ghost use Rattle.parser.specs.Machine.{lent};
@@ -39,7 +39,7 @@ fn marked(tokens: &[u8], text: &[u8], at: usize, ends: bool) -> bool
 
 // The first place from `at` on that has no such token.
 fn past(tokens: &[u8], text: &[u8], at: usize, ends: bool) -> usize
-    ensures { λ r. ⌜ r ≡ past (unset (now (tokens .entry)) (now (text .entry))) (marks ends) (places (now (tokens .entry)) 32 - at) at ⌝ }
+    ensures { λ r. ⌜ r ≡ past (unset (now (tokens .entry)) (now (text .entry))) (marks ends) (places (now (tokens .entry)) token-size - at) at ⌝ }
 {
     let mut i = at;
     while marked(tokens, text, i, ends) {

@@ -5,7 +5,7 @@ ghost use lib.ListN.{length};
 ghost use Rattle.places.specs.Places.{places};
 ghost use Rattle.records.specs.Names.{noRange};
 ghost use Rattle.rules.specs.Rules.Words.{first};
-ghost use Rattle.records.specs.Tokens.{readAt};
+ghost use Rattle.records.specs.Tokens.{token-size, readAt};
 ghost use Rattle.rules.specs.Rules.{node-from, node-properties, alias, anchor-first, tag-first, node-content, content, block-content, with-tag, with-anchor, register-anchor, into, pop-state};
 ghost use Rattle.tables.specs.Anchors.{anchorsOf, named};
 ghost use Rattle.parser.specs.Machine.{lent};
@@ -204,7 +204,7 @@ impl Machine {
         block: bool,
         indentless: bool,
     ) -> Step
-        requires { ⌜ at < places (now tokens) 32 ⌝ }
+        requires { ⌜ at < places (now tokens) token-size ⌝ }
         ensures { λ r. ⌜ r ≡ decided (lent (now (tokens .entry)) (now (text .entry)) (now (names .entry)) (now (tags .entry)) terms) self (λ g m. node-from g m at (overOf over) block indentless t) ⌝ }
     {
         if t.kind == Token::ALIAS {
@@ -257,7 +257,7 @@ impl Machine {
         at: usize,
         t: Token,
     ) -> Behind
-        requires { ⌜ at < places (now tokens) 32 ⌝ }
+        requires { ⌜ at < places (now tokens) token-size ⌝ }
         ensures { λ r. ⌜ Behinds (lent (now (tokens .entry)) (now (text .entry)) (now (names .entry)) (now (tags .entry)) terms) self (λ over block indentless g m. node-properties g m at over block indentless t) r ⌝ }
     {
         if t.kind == Token::ANCHOR {

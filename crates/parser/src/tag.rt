@@ -11,7 +11,7 @@ use tables::handles;
 use tables::lookup::Found;
 
 // What a handle stands for: nothing, or a source and a prefix.
-pub enum Resolved {
+pub(crate) enum Resolved {
     Undeclared,
     Tagged(u32, Range),
 }
@@ -58,7 +58,7 @@ fn undeclared(text: &[u8], r: Range) -> Resolved
 }
 
 // A handle with `n` declared.
-pub fn resolve_tag(text: &[u8], tags: &[u8], n: usize, r: Range) -> Resolved
+pub(crate) fn resolve_tag(text: &[u8], tags: &[u8], n: usize, r: Range) -> Resolved
     ensures { λ q. ⌜ resolvedOf q ≡ resolved (first (named (now (text .entry)) r) (handlesOf (now (tags .entry)) n)) (undeclared (part (now (text .entry)) r) r) ⌝ }
 {
     let found = handles::find_handle(text, tags, n, r);

@@ -4,11 +4,11 @@ use mathlib.Core.Path.{_≡_, refl, _∙_}
 use mathlib.Core.Bool.{Bool, true, false, cond}
 use mathlib.Core.List.{List}
 use mathlib.Core.Logic.{_⊎_, inl, inr, ⊎-elim}
-use Prim.Native.Nat.{ℕ, _+_, _*_, _/_, _^_, _≤_, _<_}
+use Prim.Native.Nat.{ℕ, _+_, _*_, _/_, _≤_, _<_}
 use native.Mathlib.Nat.{mul-div-le, mul-le-mul-left, mul-suc, zero-mul, div-zero, div-le-self, le-of-lt, min-eq-left, min-eq-right}
 use native.Mathlib.Omega.{arith}
 use borrow.Author.Tests.{ltb-true, ltb-false, lt-ltb, le-ltb}
-use lib.ListN.{length, getD, length-append, length-replicate, length-drop}
+use lib.ListN.{length, getD}
 use lib.Dec.{ltb}
 use lib.Seq.{sets, length-sets}
 use Rattle.places.specs.Words.{word, encode}
@@ -62,14 +62,14 @@ four : (ns : List ℕ) (k : ℕ) → k < length ns → ltb k (4 * length ns / 4)
 four ns k h = lt-ltb k (4 * length ns / 4) (omega arith)
 
 -- a field is read back
-pub field-same : (b : List ℕ) (at : ℕ) (ns : List ℕ) (k : ℕ) → hasPlace b (4 * length ns) at ≡ true → k < length ns → getD ns k 0 < 2 ^ 32
+pub field-same : (b : List ℕ) (at : ℕ) (ns : List ℕ) (k : ℕ) → hasPlace b (4 * length ns) at ≡ true → k < length ns
     → fieldOf (stored b at ns) (4 * length ns) at k ≡ getD ns k 0
 unfolding fieldOf
-field-same b at ns k h hk small =
+field-same b at ns k h hk =
     let w = within b (4 * length ns) at h in
     let n = length-encode ns in
     rw (four ns k hk, hasPlace-stored b at ns (4 * length ns) at, h, stored-yes b at ns h)
-    (word-sets (encode ns) b (4 * length ns * at) (4 * k) (omega arith) (omega arith) ∙ word-encode ns k hk small)
+    (word-sets (encode ns) b (4 * length ns * at) (4 * k) (omega arith) (omega arith) ∙ word-encode ns k hk)
 
 -- a number outside the place stands
 word-other : (b : List ℕ) (at : ℕ) (ns : List ℕ) (x : ℕ) → (x + 4 ≤ 4 * length ns * at) ⊎ (4 * length ns * at + 4 * length ns ≤ x) → word (stored b at ns) x ≡ word b x
@@ -106,7 +106,3 @@ module _ (b : List ℕ) (size n : ℕ) where
   pub cleared-most : places b size ≤ n → clearedPlaces b size n ≡ zeroed (size * places b size) b
   unfolding clearedPlaces
   cleared-most h = rw (min-eq-right h)
-
-  pub length-zeroed : (k : ℕ) → k ≤ length b → length (zeroed k b) ≡ length b
-  unfolding zeroed
-  length-zeroed k h = simp (length-append, length-replicate, length-drop) (omega arith)

@@ -1,7 +1,7 @@
 -- Laws of a run of stores (`sets`) and of numbers of 4 bytes: where a store is read back and what it leaves alone.
 -- Assumes nothing.
 use mathlib.Core.Path.{_≡_, refl, sym, ap, _∙_}
-use Prim.Native.Nat.{ℕ, zero, suc, _+_, _*_, _^_, _≤_, _<_}
+use Prim.Native.Nat.{ℕ, zero, suc, _+_, _*_, _≤_, _<_}
 use native.Mathlib.Nat.{add-zero}
 use native.Mathlib.Numerals.{add-one}
 use native.Mathlib.Omega.{arith}
@@ -63,14 +63,10 @@ unfolding encode le
 length-encode [] = refl
 length-encode (n ∷ ns) = omega (arith, length-encode ns)
 
-pub length-le : (n : ℕ) → length (le n) ≡ 4
-unfolding le
-length-le n = refl
-
 -- the number that 4 bytes hold is the number that they were made of
-pub word-le : (n : ℕ) (rest : List ℕ) → n < 2 ^ 32 → word (le n ++ rest) 0 ≡ n
+pub word-le : (n : ℕ) (rest : List ℕ) → word (le n ++ rest) 0 ≡ n
 unfolding word le
-word-le n rest h = omega arith
+word-le n rest = omega arith
 
 -- a number behind the 4 bytes of another
 pub word-behind : (n : ℕ) (rest : List ℕ) (j : ℕ) → word (le n ++ rest) (4 + j) ≡ word rest j
@@ -81,13 +77,13 @@ word-behind n rest j =
     rw (e 1, e 2, e 3, e0)
 
 -- the kth of the numbers stands at 4 * k
-pub word-encode : (ns : List ℕ) (k : ℕ) → k < length ns → getD ns k 0 < 2 ^ 32 → word (encode ns) (4 * k) ≡ getD ns k 0
+pub word-encode : (ns : List ℕ) (k : ℕ) → k < length ns → word (encode ns) (4 * k) ≡ getD ns k 0
 unfolding encode
-word-encode [] k h b = absurd (omega arith)
-word-encode (n ∷ ns) zero h b = word-le n (encode ns) b
-word-encode (n ∷ ns) (suc k) h b =
+word-encode [] k h = absurd (omega arith)
+word-encode (n ∷ ns) zero h = word-le n (encode ns)
+word-encode (n ∷ ns) (suc k) h =
     let e : 4 * suc k ≡ 4 + 4 * k = omega arith in
-    rw e (word-behind n (encode ns) (4 * k) ∙ word-encode ns k (omega arith) b)
+    rw e (word-behind n (encode ns) (4 * k) ∙ word-encode ns k (omega arith))
 
 -- one more number stored
 pub put-more : (b : List ℕ) (at : ℕ) (ns : List ℕ) (i : ℕ) → i < length ns → sets (sets b at (encode (take i ns))) (at + 4 * i) (le (getD ns i 0)) ≡ sets b at (encode (take (i + 1) ns))

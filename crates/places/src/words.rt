@@ -13,7 +13,7 @@ fn wide(x: u8) -> u32
 }
 
 // The number in the 4 bytes from `at`.
-pub fn get(bytes: &[u8], at: usize) -> u32
+pub(crate) fn get(bytes: &[u8], at: usize) -> u32
     requires { ⌜ at + 4 ≤ length (now bytes) ⌝ }
     ensures { λ r. ⌜ r ≡ word (now (bytes .entry)) at ⌝ }
 {
@@ -35,7 +35,7 @@ fn put(bytes: &mut [u8], at: usize, n: u32)
 }
 
 // Stores the numbers one after another from `at`.
-pub fn put_all(bytes: &mut [u8], at: usize, numbers: &[u32])
+pub(crate) fn put_all(bytes: &mut [u8], at: usize, numbers: &[u32])
     requires { ⌜ at + 4 * length (now numbers) ≤ length (now bytes) ⌝ }
     ensures { λ _. ⌜ now (bytes .exit) ≡ sets (now (bytes .entry)) at (encode (now (numbers .entry))) ⌝ }
 {

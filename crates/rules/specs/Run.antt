@@ -9,7 +9,7 @@ use Rattle.tables.specs.Tables.{entered}
 use Rattle.tables.specs.Anchors as anchors
 use Rattle.tables.specs.declared.anchors.Anchor.{Anchor}
 use Rattle.tables.specs.declared.handles.Handle.{Handle}
-use Rattle.rules.specs.States.{numbers}
+use Rattle.rules.specs.States.{END, numbers}
 use Rattle.rules.specs.Rules.{if_then_else_, Given, Small, Move, Stay, Push, Pop, Names, NamesKept, NamePut, NamesForgotten, Tags, TagsKept, TagsDeclared, TagsForgotten, Change, Place, OpenPlace, AnchorPlace, HandlePlace, Decision, Next, Refused, Unreachable, Wants, declare, state-machine}
 use Rattle.rules.specs.declared.State.{State}
 use Rattle.rules.specs.declared.State.the-variants as s
@@ -124,7 +124,7 @@ store e o = record { number = o .number; place = o .place; events = e ∷ o .eve
 
 -- StreamEnd was given
 unfoldable pub ended : State → Bool
-ended state = eqb (numbers state .rank) 21
+ended state = eqb (numbers state .rank) END
 
 -- the number of a step that pops from no open state; no run from the fresh machine meets it
 abbrev pub STUCK : ℕ

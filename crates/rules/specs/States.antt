@@ -6,6 +6,10 @@ use Rattle.tables.specs.declared.states.OpenState.{OpenState}
 use Rattle.rules.specs.declared.State.{State}
 use Rattle.rules.specs.declared.State.the-variants as s
 
+-- the rank of End, the last
+abbrev pub END : ℕ
+END = 21
+
 -- a state that holds no position
 unfoldable pub ranked : ℕ → OpenState
 ranked r = record { rank = r; position = 0 }
@@ -33,7 +37,7 @@ numbers s.FlowMappingFirstKey = ranked 17
 numbers s.FlowMappingKey = ranked 18
 numbers s.FlowMappingValue = ranked 19
 numbers s.FlowMappingEmptyValue = ranked 20
-numbers s.End = ranked 21
+numbers s.End = ranked END
 
 -- the states in the order of their ranks
 unfoldable pub states : ℕ → List State

@@ -36,37 +36,86 @@ fn ranked(rank: u32) -> OpenState
     OpenState { rank, position: 0 }
 }
 
+// The ranks.
+impl State {
+    pub const STREAM_START: u32 = 0;
+
+    pub const IMPLICIT_DOCUMENT_START: u32 = 1;
+
+    pub const DOCUMENT_START: u32 = 2;
+
+    pub const DOCUMENT_CONTENT: u32 = 3;
+
+    pub const DOCUMENT_END: u32 = 4;
+
+    pub const BLOCK_NODE: u32 = 5;
+
+    pub const BLOCK_SEQUENCE_FIRST_ENTRY: u32 = 6;
+
+    pub const BLOCK_SEQUENCE_ENTRY: u32 = 7;
+
+    pub const INDENTLESS_SEQUENCE_ENTRY: u32 = 8;
+
+    pub const BLOCK_MAPPING_FIRST_KEY: u32 = 9;
+
+    pub const BLOCK_MAPPING_KEY: u32 = 10;
+
+    pub const BLOCK_MAPPING_VALUE: u32 = 11;
+
+    pub const FLOW_SEQUENCE_FIRST_ENTRY: u32 = 12;
+
+    pub const FLOW_SEQUENCE_ENTRY: u32 = 13;
+
+    pub const FLOW_SEQUENCE_ENTRY_MAPPING_KEY: u32 = 14;
+
+    pub const FLOW_SEQUENCE_ENTRY_MAPPING_VALUE: u32 = 15;
+
+    pub const FLOW_SEQUENCE_ENTRY_MAPPING_END: u32 = 16;
+
+    pub const FLOW_MAPPING_FIRST_KEY: u32 = 17;
+
+    pub const FLOW_MAPPING_KEY: u32 = 18;
+
+    pub const FLOW_MAPPING_VALUE: u32 = 19;
+
+    pub const FLOW_MAPPING_EMPTY_VALUE: u32 = 20;
+
+    pub const END: u32 = 21;
+}
+
 impl State {
     // The two numbers of a state: its rank, and the position that it holds, else 0.
     pub fn numbers(self) -> OpenState
         ensures { λ r. ⌜ r ≡ numbers self ⌝ }
     {
         match self {
-            State::StreamStart => ranked(0),
-            State::ImplicitDocumentStart => ranked(1),
-            State::DocumentStart => ranked(2),
-            State::DocumentContent => ranked(3),
-            State::DocumentEnd => ranked(4),
-            State::BlockNode => ranked(5),
-            State::BlockSequenceFirstEntry => ranked(6),
-            State::BlockSequenceEntry => ranked(7),
-            State::IndentlessSequenceEntry => ranked(8),
-            State::BlockMappingFirstKey => ranked(9),
-            State::BlockMappingKey => ranked(10),
-            State::BlockMappingValue => ranked(11),
-            State::FlowSequenceFirstEntry => ranked(12),
-            State::FlowSequenceEntry => ranked(13),
-            State::FlowSequenceEntryMappingKey => ranked(14),
-            State::FlowSequenceEntryMappingValue => ranked(15),
+            State::StreamStart => ranked(State::STREAM_START),
+            State::ImplicitDocumentStart => ranked(State::IMPLICIT_DOCUMENT_START),
+            State::DocumentStart => ranked(State::DOCUMENT_START),
+            State::DocumentContent => ranked(State::DOCUMENT_CONTENT),
+            State::DocumentEnd => ranked(State::DOCUMENT_END),
+            State::BlockNode => ranked(State::BLOCK_NODE),
+            State::BlockSequenceFirstEntry => ranked(State::BLOCK_SEQUENCE_FIRST_ENTRY),
+            State::BlockSequenceEntry => ranked(State::BLOCK_SEQUENCE_ENTRY),
+            State::IndentlessSequenceEntry => ranked(State::INDENTLESS_SEQUENCE_ENTRY),
+            State::BlockMappingFirstKey => ranked(State::BLOCK_MAPPING_FIRST_KEY),
+            State::BlockMappingKey => ranked(State::BLOCK_MAPPING_KEY),
+            State::BlockMappingValue => ranked(State::BLOCK_MAPPING_VALUE),
+            State::FlowSequenceFirstEntry => ranked(State::FLOW_SEQUENCE_FIRST_ENTRY),
+            State::FlowSequenceEntry => ranked(State::FLOW_SEQUENCE_ENTRY),
+            State::FlowSequenceEntryMappingKey => ranked(State::FLOW_SEQUENCE_ENTRY_MAPPING_KEY),
+            State::FlowSequenceEntryMappingValue => ranked(
+                State::FLOW_SEQUENCE_ENTRY_MAPPING_VALUE,
+            ),
             State::FlowSequenceEntryMappingEnd(mark) => OpenState {
-                rank: 16,
+                rank: State::FLOW_SEQUENCE_ENTRY_MAPPING_END,
                 position: mark,
             },
-            State::FlowMappingFirstKey => ranked(17),
-            State::FlowMappingKey => ranked(18),
-            State::FlowMappingValue => ranked(19),
-            State::FlowMappingEmptyValue => ranked(20),
-            State::End => ranked(21),
+            State::FlowMappingFirstKey => ranked(State::FLOW_MAPPING_FIRST_KEY),
+            State::FlowMappingKey => ranked(State::FLOW_MAPPING_KEY),
+            State::FlowMappingValue => ranked(State::FLOW_MAPPING_VALUE),
+            State::FlowMappingEmptyValue => ranked(State::FLOW_MAPPING_EMPTY_VALUE),
+            State::End => ranked(State::END),
         }
     }
 
@@ -76,27 +125,29 @@ impl State {
     {
         let rank = p.rank;
         match rank {
-            0 => State::StreamStart,
-            1 => State::ImplicitDocumentStart,
-            2 => State::DocumentStart,
-            3 => State::DocumentContent,
-            4 => State::DocumentEnd,
-            5 => State::BlockNode,
-            6 => State::BlockSequenceFirstEntry,
-            7 => State::BlockSequenceEntry,
-            8 => State::IndentlessSequenceEntry,
-            9 => State::BlockMappingFirstKey,
-            10 => State::BlockMappingKey,
-            11 => State::BlockMappingValue,
-            12 => State::FlowSequenceFirstEntry,
-            13 => State::FlowSequenceEntry,
-            14 => State::FlowSequenceEntryMappingKey,
-            15 => State::FlowSequenceEntryMappingValue,
-            16 => State::FlowSequenceEntryMappingEnd(p.position),
-            17 => State::FlowMappingFirstKey,
-            18 => State::FlowMappingKey,
-            19 => State::FlowMappingValue,
-            20 => State::FlowMappingEmptyValue,
+            State::STREAM_START => State::StreamStart,
+            State::IMPLICIT_DOCUMENT_START => State::ImplicitDocumentStart,
+            State::DOCUMENT_START => State::DocumentStart,
+            State::DOCUMENT_CONTENT => State::DocumentContent,
+            State::DOCUMENT_END => State::DocumentEnd,
+            State::BLOCK_NODE => State::BlockNode,
+            State::BLOCK_SEQUENCE_FIRST_ENTRY => State::BlockSequenceFirstEntry,
+            State::BLOCK_SEQUENCE_ENTRY => State::BlockSequenceEntry,
+            State::INDENTLESS_SEQUENCE_ENTRY => State::IndentlessSequenceEntry,
+            State::BLOCK_MAPPING_FIRST_KEY => State::BlockMappingFirstKey,
+            State::BLOCK_MAPPING_KEY => State::BlockMappingKey,
+            State::BLOCK_MAPPING_VALUE => State::BlockMappingValue,
+            State::FLOW_SEQUENCE_FIRST_ENTRY => State::FlowSequenceFirstEntry,
+            State::FLOW_SEQUENCE_ENTRY => State::FlowSequenceEntry,
+            State::FLOW_SEQUENCE_ENTRY_MAPPING_KEY => State::FlowSequenceEntryMappingKey,
+            State::FLOW_SEQUENCE_ENTRY_MAPPING_VALUE => State::FlowSequenceEntryMappingValue,
+            State::FLOW_SEQUENCE_ENTRY_MAPPING_END => State::FlowSequenceEntryMappingEnd(
+                p.position,
+            ),
+            State::FLOW_MAPPING_FIRST_KEY => State::FlowMappingFirstKey,
+            State::FLOW_MAPPING_KEY => State::FlowMappingKey,
+            State::FLOW_MAPPING_VALUE => State::FlowMappingValue,
+            State::FLOW_MAPPING_EMPTY_VALUE => State::FlowMappingEmptyValue,
             _ => State::End,
         }
     }

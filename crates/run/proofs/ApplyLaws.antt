@@ -7,13 +7,13 @@ use native.Mathlib.Omega.{arith}
 use borrow.Author.Tests.{lt-ltb, ltb-true, ltb-false, eq-eqb, ne-eqb}
 use lib.ListN.{length}
 use Rattle.places.specs.Places.{Put, hasPlace, places, stored}
-use Rattle.records.specs.Tokens.{readAt}
+use Rattle.records.specs.Tokens.{token-size, readAt}
 use Rattle.records.specs.declared.tokens.Token.{Token}
 use Rattle.records.specs.declared.tokens.Refusal.{Refusal}
 use Rattle.records.specs.declared.tokens.Read.{Read}
 use Rattle.records.specs.declared.tokens.Read.the-variants as read
 use Rattle.tables.specs.Tables.{stack, entered}
-use Rattle.tables.specs.States.{stateAt, numbersOf, top, lowered, Pop}
+use Rattle.tables.specs.States.{state-size, stateAt, numbersOf, top, lowered, Pop}
 use Rattle.tables.specs.Anchors as a
 use Rattle.tables.specs.Handles as h
 use Rattle.tables.specs.Lookup.{find, placeFor, usedAfter, Enter, leftmost}
@@ -28,6 +28,8 @@ use Rattle.tables.proofs.TableLaws as t
 use Rattle.tables.proofs.StateLaws as st
 use Rattle.tables.proofs.AnchorLaws as al
 use Rattle.tables.proofs.HandleLaws as hl
+use Rattle.tables.specs.Anchors.{anchor-size}
+use Rattle.tables.specs.Handles.{handle-size}
 use Rattle.rules.specs.Rules.{declare, declare-read}
 use Rattle.rules.specs.Rules.Words.{if_then_else_, Given, is}
 use Rattle.rules.specs.Lists.{in-bytes}
@@ -56,11 +58,11 @@ clash e = let z : _≡_ {A = ℕ} 0 1 = cc in omega arith
 
 -- a push
 module _ (b : List ℕ) (n : ℕ) (p : State) (s : OpenState) (e : s ≡ numbers p) (r : Bool) (after : List ℕ) (put : Put b n (numbersOf s) r after) where
-  pub pushed : st.Small s → r ≡ true → Pushed b n p (n + 1) after
+  pub pushed : r ≡ true → Pushed b n p (n + 1) after
   unfolding opensOf numbersOf
-  pushed small q = record { stack = λ l. t.stack-push (λ i. back (stateAt b i)) (λ i. back (stateAt after i)) n p same other } where
+  pushed q = record { stack = λ l. t.stack-push (λ i. back (stateAt b i)) (λ i. back (stateAt after i)) n p same other } where
     same : back (stateAt after n) ≡ p
-    same = rw (put .bytes, st.state-same b n s small (sym (put .room) ∙ q), e, back-numbers p)
+    same = rw (put .bytes, st.state-same b n s (sym (put .room) ∙ q), e, back-numbers p)
 
     other : (j : ℕ) → (j ≡ n → ⊥) → back (stateAt after j) ≡ back (stateAt b j)
     other j d = rw (put .bytes, st.state-other b n s j d)
@@ -80,15 +82,15 @@ module _ (b : List ℕ) where
   top-some : (n : ℕ) (p : OpenState) → popped.State p ≡ top b n → (0 < n) × (p ≡ stateAt b (n - 1))
   unfolding top
   top-some zero p e = let z : _≡_ {A = ℕ} 0 1 = cc in absurd (omega arith)
-  top-some (suc n) p e = go (hasPlace b 8 n) e where
+  top-some (suc n) p e = go (hasPlace b state-size n) e where
     go : (r : Bool) → popped.State p ≡ cond r (popped.State (stateAt b n)) popped.Nothing → (0 < suc n) × (p ≡ stateAt b (suc n - 1))
     go true q = let i : p ≡ stateAt b n = cc in let k : suc n - 1 ≡ n = omega arith in (omega arith, rw k i)
     go false q = let z : _≡_ {A = ℕ} 0 1 = cc in absurd (omega arith)
 
-  top-none : (n : ℕ) → popped.Nothing ≡ top b (suc n) → places b 8 ≤ n
+  top-none : (n : ℕ) → popped.Nothing ≡ top b (suc n) → places b state-size ≤ n
   unfolding top
-  top-none n e = go (hasPlace b 8 n) refl e where
-    go : (r : Bool) → hasPlace b 8 n ≡ r → popped.Nothing ≡ cond r (popped.State (stateAt b n)) popped.Nothing → places b 8 ≤ n
+  top-none n e = go (hasPlace b state-size n) refl e where
+    go : (r : Bool) → hasPlace b state-size n ≡ r → popped.Nothing ≡ cond r (popped.State (stateAt b n)) popped.Nothing → places b state-size ≤ n
     go true q e = let z : _≡_ {A = ℕ} 0 1 = cc in absurd (omega arith)
     go false q e = no-place b 8 n q
 
@@ -132,36 +134,36 @@ module _ {A : Type 0} (p : A → Bool) (x : A) where
     go false ih = omega arith
 
 -- an anchor put where the search says
-module _ (b : List ℕ) (n i : ℕ) (x : Anchor) (small : al.Small x) (r : Bool) (after : List ℕ) (put : Put b i (a.numbersOf x) r after) where
+module _ (b : List ℕ) (n i : ℕ) (x : Anchor) (r : Bool) (after : List ℕ) (put : Put b i (a.numbersOf x) r after) where
   length-anchors : length (a.anchorsOf b n) ≡ n
   unfolding a.anchorsOf
   length-anchors = t.length-table (a.anchorAt b) (a.anchorAt b) 0 n
 
-  module _ (text : List ℕ) (e : i ≡ placeFor (find text b 12 n (x .name)) n)
-      (room : length (entered (a.named text (x .name)) x (a.anchorsOf b n)) ≤ places b 12) where
-    there : hasPlace b 12 i ≡ true
+  module _ (text : List ℕ) (e : i ≡ placeFor (find text b anchor-size n (x .name)) n)
+      (room : length (entered (a.named text (x .name)) x (a.anchorsOf b n)) ≤ places b anchor-size) where
+    there : hasPlace b anchor-size i ≡ true
     there = has-place b 12 i
         (omega (arith, seat-below (a.named text (x .name)) x 0 n (a.anchorsOf b n) (omega (arith, length-anchors)), rw (al.looked text b n (x .name)) at e))
 
-    seat : Seat n (find text b 12 n (x .name))
+    seat : Seat n (find text b anchor-size n (x .name))
     seat = rw (al.looked text b n (x .name)) (seat-from (a.named text (x .name)) x 0 n (a.anchorsOf b n) (omega (arith, length-anchors)))
 
-    named-by : (k : ℕ) → k ≡ usedAfter (find text b 12 n (x .name)) n → a.anchorsOf after k ≡ entered (a.named text (x .name)) x (a.anchorsOf b n)
+    named-by : (k : ℕ) → k ≡ usedAfter (find text b anchor-size n (x .name)) n → a.anchorsOf after k ≡ entered (a.named text (x .name)) x (a.anchorsOf b n)
     unfolding a.numbersOf
-    named-by k q = al.enter b x small text n k after (record { used = rw (← e, there, q); bytes = rw (← e) (put .bytes) })
+    named-by k q = al.enter b x text n k after (record { used = rw (← e, there, q); bytes = rw (← e) (put .bytes) })
 
   pub named-next : i ≡ n → NamePut b n i x (n + 1) after
   named-next q = record { table = λ text e room. go text e room (seat text e room) } where
-    go : (text : List ℕ) (e : i ≡ placeFor (find text b 12 n (x .name)) n)
-        (room : length (entered (a.named text (x .name)) x (a.anchorsOf b n)) ≤ places b 12) → Seat n (find text b 12 n (x .name))
+    go : (text : List ℕ) (e : i ≡ placeFor (find text b anchor-size n (x .name)) n)
+        (room : length (entered (a.named text (x .name)) x (a.anchorsOf b n)) ≤ places b anchor-size) → Seat n (find text b anchor-size n (x .name))
         → a.anchorsOf after (n + 1) ≡ entered (a.named text (x .name)) x (a.anchorsOf b n)
     go text e room (own l u) = absurd (omega arith)
     go text e room (next l u) = named-by text e room (n + 1) (sym u)
 
   pub named-own : (i ≡ n → ⊥) → NamePut b n i x n after
   named-own q = record { table = λ text e room. go text e room (seat text e room) } where
-    go : (text : List ℕ) (e : i ≡ placeFor (find text b 12 n (x .name)) n)
-        (room : length (entered (a.named text (x .name)) x (a.anchorsOf b n)) ≤ places b 12) → Seat n (find text b 12 n (x .name))
+    go : (text : List ℕ) (e : i ≡ placeFor (find text b anchor-size n (x .name)) n)
+        (room : length (entered (a.named text (x .name)) x (a.anchorsOf b n)) ≤ places b anchor-size) → Seat n (find text b anchor-size n (x .name))
         → a.anchorsOf after n ≡ entered (a.named text (x .name)) x (a.anchorsOf b n)
     go text e room (own l u) = named-by text e room n (sym u)
     go text e room (next l u) = absurd (q (e ∙ l))
@@ -171,9 +173,9 @@ module _ (b : List ℕ) (n i : ℕ) (x : Anchor) (small : al.Small x) (r : Bool)
   not-named q = record { table = λ text e room. absurd (clash (sym (there text e room) ∙ sym (put .room) ∙ q)) }
 
 -- a handle entered
-module _ (text b : List ℕ) (n : ℕ) (x : Handle) (small : hl.Small x) (after : List ℕ) where
+module _ (text b : List ℕ) (n : ℕ) (x : Handle) (after : List ℕ) where
   pub entered-used : (m : ℕ) → Enter text b n (x .name) (h.numbersOf x) (entered.Used m) after → Entering text b n x m after
-  entered-used m q = record { table = λ room. hl.enter b x small text n m after q }
+  entered-used m q = record { table = λ room. hl.enter b x text n m after q }
 
   length-handles : length (h.handlesOf b n) ≡ n
   unfolding h.handlesOf
@@ -187,8 +189,8 @@ module _ (text b : List ℕ) (n : ℕ) (x : Handle) (small : hl.Small x) (after 
   unfolding h.numbersOf
   entered-full q = record {
     table = λ room.
-        let f = find text b 16 n (x .name) in
-        let none = no-place b 16 (placeFor f n) (full (hasPlace b 16 (placeFor f n)) (usedAfter f n) (q .used)) in
+        let f = find text b handle-size n (x .name) in
+        let none = no-place b 16 (placeFor f n) (full (hasPlace b handle-size (placeFor f n)) (usedAfter f n) (q .used)) in
         let here = seat-below (h.named text (x .name)) x 0 n (h.handlesOf b n) (omega (arith, length-handles)) in
         absurd (omega (arith, rw (hl.looked text b n (x .name)) at none, here));
   }
@@ -203,14 +205,14 @@ module _ (tokens text b : List ℕ) (n at : ℕ) where
   unfolding declare-read in-bytes
   declared-refused e q = record {
     table = λ keep forget room.
-        rw (declared-one (in-bytes tokens (places tokens 32) text keep forget) (h.handlesOf b n), q);
+        rw (declared-one (in-bytes tokens (places tokens token-size) text keep forget) (h.handlesOf b n), q);
   }
 
   pub declared-other : (x : Token) → readAt tokens (length text) at ≡ read.Token x → (x .kind ≡ 4 → ⊥) → Declaring tokens text b n at 1 n b
   unfolding declare-read in-bytes is if_then_else_
   declared-other x q d = record {
     table = λ keep forget room.
-        rw (declared-one (in-bytes tokens (places tokens 32) text keep forget) (h.handlesOf b n), q, ne-eqb (x .kind) 4 d);
+        rw (declared-one (in-bytes tokens (places tokens token-size) text keep forget) (h.handlesOf b n), q, ne-eqb (x .kind) 4 d);
   }
 
   pub declared-tag : (x : Token) (r : ℕ) (after : List ℕ) → readAt tokens (length text) at ≡ read.Token x → x .kind ≡ 4
@@ -218,7 +220,7 @@ module _ (tokens text b : List ℕ) (n at : ℕ) where
   unfolding declare-read in-bytes is if_then_else_
   declared-tag x r after q d k = record {
     table = λ keep forget.
-        rw (declared-one (in-bytes tokens (places tokens 32) text keep forget) (h.handlesOf b n), q, eq-eqb (x .kind) 4 d) (k .table);
+        rw (declared-one (in-bytes tokens (places tokens token-size) text keep forget) (h.handlesOf b n), q, eq-eqb (x .kind) 4 d) (k .table);
   }
 
 -- one token more
@@ -249,11 +251,11 @@ module _ (tokens text b : List ℕ) (n from : ℕ) where
   pub declared-more : (k used at : ℕ) (mid : List ℕ) (r : ℕ) (after : List ℕ) → at ≡ from + k → length mid ≡ length b
       → Declaring tokens text b n from k used mid → Declaring tokens text mid used at 1 r after
       → Declaring tokens text b n from (suc k) r after
-  declared-more k used at mid r after e l d o = record { table = λ keep forget room. go (in-bytes tokens (places tokens 32) text keep forget) (d .table keep forget) (o .table keep forget) room } where
+  declared-more k used at mid r after e l d o = record { table = λ keep forget room. go (in-bytes tokens (places tokens token-size) text keep forget) (d .table keep forget) (o .table keep forget) room } where
     go : (g : Given)
-        → (length (declare g k from (h.handlesOf b n)) ≤ places b 16 → h.handlesOf mid used ≡ declare g k from (h.handlesOf b n))
-        → (length (declare g 1 at (h.handlesOf mid used)) ≤ places mid 16 → h.handlesOf after r ≡ declare g 1 at (h.handlesOf mid used))
-        → length (declare g (suc k) from (h.handlesOf b n)) ≤ places b 16
+        → (length (declare g k from (h.handlesOf b n)) ≤ places b handle-size → h.handlesOf mid used ≡ declare g k from (h.handlesOf b n))
+        → (length (declare g 1 at (h.handlesOf mid used)) ≤ places mid handle-size → h.handlesOf after r ≡ declare g 1 at (h.handlesOf mid used))
+        → length (declare g (suc k) from (h.handlesOf b n)) ≤ places b handle-size
         → h.handlesOf after r ≡ declare g (suc k) from (h.handlesOf b n)
     go g first second room =
         let more = declare-more g k from (h.handlesOf b n) in

@@ -9,6 +9,8 @@ use Rattle.records.specs.Checks.{firstChecks}
 use Rattle.records.specs.declared.checks.Checked.the-variants as checked
 use Rattle.records.specs.declared.tokens.Refusal.{Refusal}
 use Rattle.records.proofs.CheckLaws as checks
+use Rattle.records.specs.Tokens.{token-size}
+use Rattle.records.specs.Events.{event-size}
 use Rattle.rules.specs.Run.{fresh}
 use Rattle.parser.specs.Machine.{rooms}
 use Rattle.parser.specs.declared.Terms.{Terms}
@@ -20,7 +22,7 @@ use Rattle.run.specs.declared.Settings.{Settings}
 module _ (tokens text : List ℕ) (settings : Settings) (events states anchors handles : List ℕ) where
   -- a list that passed
   module _ (n : ℕ) (e : firstChecks tokens (length text) ≡ checked.Passed n) (t : Terms) (i : t ≡ termsOf settings (length states) (length anchors) (length handles)) where
-    passed-all : firstChecks tokens (length text) ≡ checked.Passed (places tokens 32)
+    passed-all : firstChecks tokens (length text) ≡ checked.Passed (places tokens token-size)
     passed-all = e ∙ ap checked.Passed (checks.passed tokens (length text) n e .count)
 
     pub ready : Ready tokens text t states anchors handles
@@ -28,7 +30,7 @@ module _ (tokens text : List ℕ) (settings : Settings) (events states anchors h
     ready = record { passed = passed-all; opens = rw i; names = rw i; tags = rw i }
 
     pub told-passed : checkedRun (firstChecks tokens (length text)) tokens text settings (roomsOf states anchors handles) events
-        ≡ told events (rest tokens text t (places events 48) fresh)
+        ≡ told events (rest tokens text t (places events event-size) fresh)
     unfolding checkedRun rest rooms roomsOf givenOf termsOf
     told-passed = rw (passed-all, i)
 

@@ -7,9 +7,9 @@ use lib.ListN.{length}
 use Rattle.places.specs.Places.{places}
 use Rattle.records.specs.declared.events.Event.{Event}
 use Rattle.records.specs.declared.tokens.Refusal.{Refusal}
-use Rattle.tables.specs.Anchors.{anchorsOf}
-use Rattle.tables.specs.Handles.{handlesOf}
-use Rattle.tables.specs.States.{stateAt}
+use Rattle.tables.specs.Anchors.{anchor-size, anchorsOf}
+use Rattle.tables.specs.Handles.{handle-size, handlesOf}
+use Rattle.tables.specs.States.{state-size, stateAt}
 use Rattle.tables.proofs.TableLaws as t
 use Rattle.rules.specs.Rules.{state-machine}
 use Rattle.rules.specs.Rules.Words as r
@@ -101,14 +101,14 @@ module _ (tokens text : List ℕ) (terms : Terms) (states anchors handles : List
   step-sticks q = sticks x m g w d (sym decided-by ∙ q)
 
   module _ (c : Change) (k : Granted (rooms terms) g w c) (states′ anchors′ handles′ : List ℕ) where
-    names-after : (names : r.Names) (n : ℕ) → length (run.named g w names) ≤ places anchors 12
+    names-after : (names : r.Names) (n : ℕ) → length (run.named g w names) ≤ places anchors anchor-size
         → Naming anchors (m .names) (namesAfter x m names) n anchors′ → anchorsOf anchors′ n ≡ run.named g w names
     unfolding Naming namesAfter run.named lent givenOf in-bytes modelOf
     names-after r.NamesKept n l h = h
     names-after (r.NamePut name) n l h = h .table text refl l
     names-after r.NamesForgotten n l h = h .1
 
-    tags-after : (tags : r.Tags) (n : ℕ) → length (run.handled g w tags) ≤ places handles 16
+    tags-after : (tags : r.Tags) (n : ℕ) → length (run.handled g w tags) ≤ places handles handle-size
         → Handling tokens text handles (m .handles) (handlesAfter tags) n handles′ → handlesOf handles′ n ≡ run.handled g w tags
     unfolding Handling handlesAfter run.handled givenOf modelOf
     tags-after r.TagsKept n l h = h
@@ -153,7 +153,7 @@ module _ (tokens text : List ℕ) (terms : Terms) (states anchors handles : List
       go : Chosen x m d s → s .machine .next ≡ m .next
       go (chosen c i e) = rw e
 
-    pub step-taken : (o : Applied) (states′ anchors′ handles′ : List ℕ) → terms .states ≡ places states 8 → terms .names ≡ places anchors 12 → terms .handles ≡ places handles 16
+    pub step-taken : (o : Applied) (states′ anchors′ handles′ : List ℕ) → terms .states ≡ places states state-size → terms .names ≡ places anchors anchor-size → terms .handles ≡ places handles handle-size
         → Applying tokens text states anchors handles s o states′ anchors′ handles′
         → step (rooms terms) g w ≡ stepped o (s .event) states′ anchors′ handles′
     unfolding step settle rooms goes modelOf

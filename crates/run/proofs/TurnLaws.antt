@@ -8,7 +8,7 @@ use native.Mathlib.Numerals.{add-one}
 use native.Mathlib.Omega.{arith}
 use lib.ListN.{length}
 use Rattle.places.specs.Places.{places, hasPlace, stored}
-use Rattle.records.specs.Events.{numbersOf}
+use Rattle.records.specs.Events.{event-size, numbersOf}
 use Rattle.records.specs.declared.events.Event.{Event}
 use Rattle.records.specs.declared.tokens.Refusal.{Refusal}
 use Rattle.records.proofs.CheckLaws as checks
@@ -33,6 +33,7 @@ use Rattle.parser.specs.declared.Stepped.{Stepped}
 use Rattle.parser.specs.declared.Step.the-variants as st
 use Rattle.run.specs.Apply.{opensOf}
 use Rattle.records.specs.Events.{written}
+use Rattle.records.specs.Tokens.{token-size}
 use Rattle.run.specs.Run.{Told, told}
 use Rattle.run.specs.Turns as turns
 use Rattle.run.specs.Turns.{stopped, answered, tell, modelOf, givenOf, Ready, Here, rest, takenTurn, takenBytes, Taking, On, Ended, Stopped, Turned}
@@ -77,8 +78,8 @@ module _ (tokens text : List ℕ) (terms : Terms) (count : ℕ) (states anchors 
   pub few : count ≤ 196608
   unfolding givenOf in-bytes
   few =
-      let l = checked-list tokens (places tokens 32) text (terms .keep) (terms .forget) (h .passed) in
-      let s = checks.passed tokens (length text) (places tokens 32) (h .passed) in
+      let l = checked-list tokens (places tokens token-size) text (terms .keep) (terms .forget) (h .passed) in
+      let s = checks.passed tokens (length text) (places tokens token-size) (h .passed) in
       omega (arith, most {l = l} (modelOf states anchors handles m) (reached-sound l (h .reached)), s .few)
 
   pub few-ids : (s : Stepped) → decided (lent tokens text anchors handles terms) m (λ g m. state-machine g m (m .state)) ≡ st.Next s
@@ -94,7 +95,7 @@ module _ (tokens text : List ℕ) (terms : Terms) (count : ℕ) (states anchors 
     turned-halts e q = record {
       last = _;
       bytes = refl;
-      rest = run-halts (rooms terms) (givenOf tokens text terms) (modelOf states anchors handles m) (places events 48 - count) (e .number) (e .place)
+      rest = run-halts (rooms terms) (givenOf tokens text terms) (modelOf states anchors handles m) (places events event-size - count) (e .number) (e .place)
           (step-halts tokens text terms states anchors handles m e q);
     }
 
@@ -104,7 +105,7 @@ module _ (tokens text : List ℕ) (terms : Terms) (count : ℕ) (states anchors 
     turned-sticks q = record {
       last = _;
       bytes = refl;
-      rest = run-sticks (rooms terms) (givenOf tokens text terms) (modelOf states anchors handles m) (places events 48 - count)
+      rest = run-sticks (rooms terms) (givenOf tokens text terms) (modelOf states anchors handles m) (places events event-size - count)
           (step-sticks tokens text terms states anchors handles m q);
     }
 
@@ -122,7 +123,7 @@ module _ (tokens text : List ℕ) (terms : Terms) (count : ℕ) (states anchors 
         on = i;
       }
 
-      went-on : (o : Applied) (t : Bool) → hasPlace events 48 count ≡ t
+      went-on : (o : Applied) (t : Bool) → hasPlace events event-size count ≡ t
           → step (rooms terms) (givenOf tokens text terms) (modelOf states anchors handles m) ≡ stepped o e states′ anchors′ handles′
           → events′ ≡ takenBytes o events count e
           → Turned tokens text terms count events states anchors handles m (takenTurn o t) events′ states′ anchors′ handles′
@@ -130,16 +131,16 @@ module _ (tokens text : List ℕ) (terms : Terms) (count : ℕ) (states anchors 
       went-on applied.Stuck t p q b = record {
         last = _;
         bytes = b;
-        rest = run-sticks (rooms terms) (givenOf tokens text terms) (modelOf states anchors handles m) (places events 48 - count) q;
+        rest = run-sticks (rooms terms) (givenOf tokens text terms) (modelOf states anchors handles m) (places events event-size - count) q;
       }
       went-on (applied.Next m′) false p q b = record {
         last = _;
         bytes = b ∙ stored-none events count (numbersOf e) p;
-        rest = run-full (rooms terms) (givenOf tokens text terms) (modelOf states anchors handles m) e (modelOf states′ anchors′ handles′ m′) q (places events 48 - count) (omega (arith, no-place events 48 count p));
+        rest = run-full (rooms terms) (givenOf tokens text terms) (modelOf states anchors handles m) e (modelOf states′ anchors′ handles′ m′) q (places events event-size - count) (omega (arith, no-place events event-size count p));
       }
       went-on (applied.Next m′) true p q b = go (ended (m′ .state)) refl where
-        left : places events 48 - count ≡ suc (places events 48 - suc count)
-        left = omega (arith, is-place events 48 count p)
+        left : places events event-size - count ≡ suc (places events event-size - suc count)
+        left = omega (arith, is-place events event-size count p)
 
         go : (t : Bool) → ended (m′ .state) ≡ t
             → Turned tokens text terms count events states anchors handles m (cond t went.Ended (went.On m′)) events′ states′ anchors′ handles′
@@ -147,14 +148,14 @@ module _ (tokens text : List ℕ) (terms : Terms) (count : ℕ) (states anchors 
           event = e;
           last = modelOf states′ anchors′ handles′ m′;
           bytes = b;
-          rest = run-ends (rooms terms) (givenOf tokens text terms) (modelOf states anchors handles m) e (modelOf states′ anchors′ handles′ m′) q (places events 48 - count) (places events 48 - suc count) left i;
+          rest = run-ends (rooms terms) (givenOf tokens text terms) (modelOf states anchors handles m) e (modelOf states′ anchors′ handles′ m′) q (places events event-size - count) (places events event-size - suc count) left i;
         }
         go false i = record {
           event = e;
-          room = is-place events 48 count p;
+          room = is-place events event-size count p;
           bytes = b;
           here = here-on m′ q i;
-          rest = run-goes (rooms terms) (givenOf tokens text terms) (modelOf states anchors handles m) e (modelOf states′ anchors′ handles′ m′) q (places events 48 - count) (places events 48 - suc count) left i;
+          rest = run-goes (rooms terms) (givenOf tokens text terms) (modelOf states anchors handles m) e (modelOf states′ anchors′ handles′ m′) q (places events event-size - count) (places events event-size - suc count) left i;
         }
 
     pub turned-taken : (s : Stepped) → decided (lent tokens text anchors handles terms) m (λ g m. state-machine g m (m .state)) ≡ st.Next s
@@ -163,7 +164,7 @@ module _ (tokens text : List ℕ) (terms : Terms) (count : ℕ) (states anchors 
         → Turned tokens text terms count events states anchors handles m w events′ states′ anchors′ handles′
     turned-taken s q w events′ states′ anchors′ handles′ ls la lh t =
         let k = step-taken tokens text terms states anchors handles m (reached-fits (h .reached)) s q (t .applied) states′ anchors′ handles′ (h .opens) (h .names) (h .tags) (t .applying) in
-        rw (t .turn) (went-on events′ states′ anchors′ handles′ (s .event) ls la lh (t .applied) (hasPlace events 48 count) refl k (t .bytes))
+        rw (t .turn) (went-on events′ states′ anchors′ handles′ (s .event) ls la lh (t .applied) (hasPlace events event-size count) refl k (t .bytes))
 
 -- what is told of a run that has stored `count` events
 abbrev pub finish : ℕ → List ℕ → Outcome → Told
@@ -194,8 +195,8 @@ begun = refl
 pub record Going (tokens text : List ℕ) (terms : Terms) (events₀ events states anchors handles : List ℕ) (m : Machine) (count : ℕ) : Type 0 where
   pub here : Here tokens text terms count states anchors handles m
   pub law :
-      told events₀ (rest tokens text terms (places events₀ 48) run.fresh)
-      ≡ finish count events (rest tokens text terms (places events 48 - count) (modelOf states anchors handles m))
+      told events₀ (rest tokens text terms (places events₀ event-size) run.fresh)
+      ≡ finish count events (rest tokens text terms (places events event-size - count) (modelOf states anchors handles m))
 
 module _ (tokens text : List ℕ) (terms : Terms) (events₀ : List ℕ) where
   pub going-start : (states anchors handles : List ℕ) (m : Machine) → Ready tokens text terms states anchors handles → m ≡ fresh
@@ -222,20 +223,20 @@ module _ (tokens text : List ℕ) (terms : Terms) (events₀ : List ℕ) where
         → Going tokens text terms events₀ events′ states′ anchors′ handles′ m′ (count + 1)
     going-on m′ l o =
         let left : ℕ → Outcome = λ n. rest tokens text terms n (modelOf states′ anchors′ handles′ m′) in
-        let last : finish (suc count) (stored events count (numbersOf (o .event))) (left (places events 48 - suc count)) ≡ finish (suc count) events′ (left (places events′ 48 - suc count)) =
+        let last : finish (suc count) (stored events count (numbersOf (o .event))) (left (places events event-size - suc count)) ≡ finish (suc count) events′ (left (places events′ event-size - suc count)) =
         rw (l, o .bytes) in
         rw add-one (record {
           here = o .here;
-          law = g .law ∙ ap (finish count events) (o .rest) ∙ finish-on count events (o .event) (left (places events 48 - suc count)) ∙ last;
+          law = g .law ∙ ap (finish count events) (o .rest) ∙ finish-on count events (o .event) (left (places events event-size - suc count)) ∙ last;
         })
 
-    pub going-ends : Ended (rest tokens text terms (places events 48 - count) (modelOf states anchors handles m)) count events events′
-        → tell (answered 0 (count + 1) 0) events′ ≡ told events₀ (rest tokens text terms (places events₀ 48) run.fresh)
+    pub going-ends : Ended (rest tokens text terms (places events event-size - count) (modelOf states anchors handles m)) count events events′
+        → tell (answered 0 (count + 1) 0) events′ ≡ told events₀ (rest tokens text terms (places events₀ event-size) run.fresh)
     going-ends o =
         rw (add-one, o .bytes)
         (sym (g .law ∙ ap (finish count events) (o .rest) ∙ finish-on count events (o .event) (stop (o .last) 0 0) ∙ finish-stop (suc count) (stored events count (numbersOf (o .event))) (o .last) 0 0))
 
-    pub going-stops : (number place : ℕ) → Stopped (rest tokens text terms (places events 48 - count) (modelOf states anchors handles m)) number place events events′
-        → tell (answered number count place) events′ ≡ told events₀ (rest tokens text terms (places events₀ 48) run.fresh)
+    pub going-stops : (number place : ℕ) → Stopped (rest tokens text terms (places events event-size - count) (modelOf states anchors handles m)) number place events events′
+        → tell (answered number count place) events′ ≡ told events₀ (rest tokens text terms (places events₀ event-size) run.fresh)
     going-stops number place o =
         rw (o .bytes) (sym (g .law ∙ ap (finish count events) (o .rest) ∙ finish-stop count events (o .last) number place))

@@ -6,13 +6,16 @@ use mathlib.Core.Bool.{Bool}
 use mathlib.Core.List.{List, [], _∷_}
 use lib.ListN.{length}
 use Rattle.places.specs.Places.{places, clearedPlaces}
+use Rattle.records.specs.Tokens.{token-size}
 use Rattle.tables.specs.Tables.{stack, entered}
-use Rattle.tables.specs.States.{stateAt}
+use Rattle.tables.specs.States.{state-size, stateAt}
 use Rattle.tables.specs.Anchors as anchors
 use Rattle.tables.specs.Handles as handles
 use Rattle.tables.specs.Lookup.{find, placeFor}
 use Rattle.tables.specs.declared.anchors.Anchor.{Anchor}
 use Rattle.tables.specs.declared.handles.Handle.{Handle}
+use Rattle.tables.specs.Anchors.{anchor-size}
+use Rattle.tables.specs.Handles.{handle-size}
 use Rattle.rules.specs.Rules.{declare}
 use Rattle.rules.specs.Lists.{in-bytes}
 use Rattle.rules.specs.States.{back}
@@ -62,25 +65,25 @@ deep (o.Push p) n = suc n
 deep o.Pop n = n
 
 pub record Pushed (before : List ℕ) (n : ℕ) (p : State) (r : ℕ) (after : List ℕ) : Type 0 where
-  pub stack : suc n ≤ places before 8 → opensOf after r ≡ p ∷ opensOf before n
+  pub stack : suc n ≤ places before state-size → opensOf after r ≡ p ∷ opensOf before n
 
 pub record Popping (before : List ℕ) (n : ℕ) (r : Opened) (after : List ℕ) : Type 0 where
-  pub stack : n ≤ places before 8 → stood after r ≡ popped (opensOf before n)
+  pub stack : n ≤ places before state-size → stood after r ≡ popped (opensOf before n)
 
 pub record Opening (before : List ℕ) (state : State) (n : ℕ) (change : Open) (r : Opened) (after : List ℕ) : Type 0 where
-  pub stack : deep change n ≤ places before 8 → stood after r ≡ opening change state (opensOf before n)
+  pub stack : deep change n ≤ places before state-size → stood after r ≡ opening change state (opensOf before n)
 
 -- an anchor in the place that the search gives
 pub record NamePut (before : List ℕ) (n i : ℕ) (a : Anchor) (r : ℕ) (after : List ℕ) : Type 0 where
   pub table :
-      (text : List ℕ) → i ≡ placeFor (find text before 12 n (a .name)) n
-      → length (entered (anchors.named text (a .name)) a (anchors.anchorsOf before n)) ≤ places before 12
+      (text : List ℕ) → i ≡ placeFor (find text before anchor-size n (a .name)) n
+      → length (entered (anchors.named text (a .name)) a (anchors.anchorsOf before n)) ≤ places before anchor-size
       → anchors.anchorsOf after r ≡ entered (anchors.named text (a .name)) a (anchors.anchorsOf before n)
 
 unfoldable pub Naming : List ℕ → ℕ → Names → ℕ → List ℕ → Type 0
 Naming before n name.Keep r after = anchors.anchorsOf after r ≡ anchors.anchorsOf before n
 Naming before n (name.Put i a) r after = NamePut before n i a r after
-Naming before n name.Forget r after = (after ≡ clearedPlaces before 12 n) × (anchors.anchorsOf after r ≡ [])
+Naming before n name.Forget r after = (after ≡ clearedPlaces before anchor-size n) × (anchors.anchorsOf after r ≡ [])
 
 unfoldable pub numbered : ℕ → Names → ℕ
 numbered next name.Keep = next
@@ -89,20 +92,20 @@ numbered next name.Forget = next
 
 pub record Entering (text before : List ℕ) (n : ℕ) (x : Handle) (r : ℕ) (after : List ℕ) : Type 0 where
   pub table :
-      length (entered (handles.named text (x .name)) x (handles.handlesOf before n)) ≤ places before 16
+      length (entered (handles.named text (x .name)) x (handles.handlesOf before n)) ≤ places before handle-size
       → handles.handlesOf after r ≡ entered (handles.named text (x .name)) x (handles.handlesOf before n)
 
 -- the handles of the k tokens from `at` on
 pub record Declaring (tokens text before : List ℕ) (n at k r : ℕ) (after : List ℕ) : Type 0 where
   pub table :
       (keep forget : Bool)
-      → length (declare (in-bytes tokens (places tokens 32) text keep forget) k at (handles.handlesOf before n)) ≤ places before 16
-      → handles.handlesOf after r ≡ declare (in-bytes tokens (places tokens 32) text keep forget) k at (handles.handlesOf before n)
+      → length (declare (in-bytes tokens (places tokens token-size) text keep forget) k at (handles.handlesOf before n)) ≤ places before handle-size
+      → handles.handlesOf after r ≡ declare (in-bytes tokens (places tokens token-size) text keep forget) k at (handles.handlesOf before n)
 
 unfoldable pub Handling : List ℕ → List ℕ → List ℕ → ℕ → Handles → ℕ → List ℕ → Type 0
 Handling tokens text before n tag.Keep r after = handles.handlesOf after r ≡ handles.handlesOf before n
 Handling tokens text before n (tag.Declare i j) r after = Declaring tokens text before n i (j - i) r after
-Handling tokens text before n tag.Forget r after = (after ≡ clearedPlaces before 16 n) × (handles.handlesOf after r ≡ [])
+Handling tokens text before n tag.Forget r after = (after ≡ clearedPlaces before handle-size n) × (handles.handlesOf after r ≡ [])
 
 unfoldable pub advanced : Machine → Opened → ℕ → ℕ → ℕ → Applied
 advanced m (opened.At s) names handles next =

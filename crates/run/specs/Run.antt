@@ -4,14 +4,21 @@ use mathlib.Core.List.{List}
 use lib.ListN.{length}
 use Rattle.places.specs.Places.{places, zeroed}
 use Rattle.records.specs.Checks.{firstChecks}
-use Rattle.records.specs.Events.{written}
+use Rattle.records.specs.Events.{event-size, written}
 use Rattle.records.specs.declared.checks.Checked.{Checked}
 use Rattle.records.specs.declared.checks.Checked.the-variants as checked
+use Rattle.tables.specs.States.{state-size}
+use Rattle.tables.specs.Anchors.{anchor-size}
+use Rattle.tables.specs.Handles.{handle-size}
 use Rattle.rules.specs.Run.{Rooms, Outcome, fresh}
 use Rattle.rules.specs.Run as rules
 use Rattle.rules.specs.Lists.{in-bytes}
 use Rattle.run.specs.declared.Answer.{Answer}
 use Rattle.run.specs.declared.Settings.{Settings}
+
+-- bytes of an answer at the face: number, count and place
+abbrev pub answer-size : ℕ
+answer-size = 12
 
 pub record Left : Type 0 where
   pub answer : Answer
@@ -26,7 +33,7 @@ cleared b = zeroed (length b) b
 -- the places of the work memory
 unfoldable pub roomsOf : List ℕ → List ℕ → List ℕ → Rooms
 roomsOf states anchors handles =
-    record { opens = places states 8; anchors = places anchors 12; handles = places handles 16 }
+    record { opens = places states state-size; anchors = places anchors anchor-size; handles = places handles handle-size }
 
 -- the answer and the event bytes; the work memory is zeroed whole
 pub record Told : Type 0 where
@@ -44,7 +51,7 @@ unfoldable pub checkedRun : Checked → List ℕ → List ℕ → Settings → R
 checkedRun (checked.Refused e) tokens text settings rooms events =
     record { answer = record { number = e .number; count = 0; place = e .place }; events = events }
 checkedRun (checked.Passed n) tokens text settings rooms events =
-    told events (rules.run rooms (in-bytes tokens n text (settings .keep) (settings .forget)) (places events 48) fresh)
+    told events (rules.run rooms (in-bytes tokens n text (settings .keep) (settings .forget)) (places events event-size) fresh)
 
 unfoldable pub runs : List ℕ → List ℕ → Settings → List ℕ → List ℕ → List ℕ → List ℕ → Left
 runs tokens text settings events states anchors handles =

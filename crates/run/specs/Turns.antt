@@ -6,11 +6,13 @@ use mathlib.Core.List.{List}
 use lib.ListN.{length}
 use Rattle.places.specs.Places.{places, hasPlace, stored}
 use Rattle.records.specs.Checks.{firstChecks}
-use Rattle.records.specs.Events.{numbersOf}
+use Rattle.records.specs.Events.{event-size, numbersOf}
 use Rattle.records.specs.declared.checks.Checked.the-variants as checked
 use Rattle.records.specs.declared.events.Event.{Event}
-use Rattle.tables.specs.Anchors.{anchorsOf}
-use Rattle.tables.specs.Handles.{handlesOf}
+use Rattle.records.specs.Tokens.{token-size}
+use Rattle.tables.specs.Anchors.{anchor-size, anchorsOf}
+use Rattle.tables.specs.Handles.{handle-size, handlesOf}
+use Rattle.tables.specs.States.{state-size}
 use Rattle.rules.specs.Rules.Words.{Given}
 use Rattle.rules.specs.Run.{Model, Outcome, stop, store, ended, STUCK}
 use Rattle.rules.specs.Run as rules
@@ -40,9 +42,9 @@ tell answer events = record { answer = answer; events = events }
 -- the terms of a run whose work buffers have these lengths
 unfoldable pub termsOf : Settings → ℕ → ℕ → ℕ → Terms
 termsOf settings states anchors handles = record {
-  states = states / 8;
-  names = anchors / 12;
-  handles = handles / 16;
+  states = states / state-size;
+  names = anchors / anchor-size;
+  handles = handles / handle-size;
   keep = settings .keep;
   forget = settings .forget;
 }
@@ -64,23 +66,23 @@ modelOf states anchors handles m = record {
 }
 
 unfoldable pub givenOf : List ℕ → List ℕ → Terms → Given
-givenOf tokens text terms = in-bytes tokens (places tokens 32) text (terms .keep) (terms .forget)
+givenOf tokens text terms = in-bytes tokens (places tokens token-size) text (terms .keep) (terms .forget)
 
 -- a machine that a run has come to after `count` events, and that goes on
 pub record Here (tokens text : List ℕ) (terms : Terms) (count : ℕ) (states anchors handles : List ℕ) (m : Machine) : Type 0 where
-  pub passed : firstChecks tokens (length text) ≡ checked.Passed (places tokens 32)
-  pub opens : terms .states ≡ places states 8
-  pub names : terms .names ≡ places anchors 12
-  pub tags : terms .handles ≡ places handles 16
+  pub passed : firstChecks tokens (length text) ≡ checked.Passed (places tokens token-size)
+  pub opens : terms .states ≡ places states state-size
+  pub names : terms .names ≡ places anchors anchor-size
+  pub tags : terms .handles ≡ places handles handle-size
   pub reached : Reached (rooms terms) (givenOf tokens text terms) count (modelOf states anchors handles m)
   pub on : ended (m .state) ≡ false
 
 -- what the turns of a run rely on
 pub record Ready (tokens text : List ℕ) (terms : Terms) (states anchors handles : List ℕ) : Type 0 where
-  pub passed : firstChecks tokens (length text) ≡ checked.Passed (places tokens 32)
-  pub opens : terms .states ≡ places states 8
-  pub names : terms .names ≡ places anchors 12
-  pub tags : terms .handles ≡ places handles 16
+  pub passed : firstChecks tokens (length text) ≡ checked.Passed (places tokens token-size)
+  pub opens : terms .states ≡ places states state-size
+  pub names : terms .names ≡ places anchors anchor-size
+  pub tags : terms .handles ≡ places handles handle-size
 
 -- what is left of the run, with as many places for events
 unfoldable pub rest : List ℕ → List ℕ → Terms → ℕ → Model → Outcome
@@ -99,18 +101,18 @@ takenBytes (applied.Next m) events count e = stored events count (numbersOf e)
 pub record Taking (tokens text : List ℕ) (s : Stepped) (count : ℕ) (events states anchors handles : List ℕ) (r : Went) (events′ states′ anchors′ handles′ : List ℕ) : Type 0 where
   pub applied : Applied
   pub applying : Applying tokens text states anchors handles s applied states′ anchors′ handles′
-  pub turn : r ≡ takenTurn applied (hasPlace events 48 count)
+  pub turn : r ≡ takenTurn applied (hasPlace events event-size count)
   pub bytes : events′ ≡ takenBytes applied events count (s .event)
 
 -- the run goes on: an event was stored, and the machine is one that it has come to
 pub record On (tokens text : List ℕ) (terms : Terms) (count : ℕ) (events states anchors handles : List ℕ) (m : Machine) (events′ states′ anchors′ handles′ : List ℕ) (m′ : Machine) : Type 0 where
   pub event : Event
-  pub room : count < places events 48
+  pub room : count < places events event-size
   pub bytes : events′ ≡ stored events count (numbersOf event)
   pub here : Here tokens text terms (suc count) states′ anchors′ handles′ m′
   pub rest :
-      rest tokens text terms (places events 48 - count) (modelOf states anchors handles m)
-      ≡ store event (rest tokens text terms (places events 48 - suc count) (modelOf states′ anchors′ handles′ m′))
+      rest tokens text terms (places events event-size - count) (modelOf states anchors handles m)
+      ≡ store event (rest tokens text terms (places events event-size - suc count) (modelOf states′ anchors′ handles′ m′))
 
 -- it has ended with an event
 pub record Ended (o : Outcome) (count : ℕ) (events events′ : List ℕ) : Type 0 where
@@ -130,6 +132,6 @@ module _ (tokens text : List ℕ) (terms : Terms) (count : ℕ) (events states a
   Turned (went.On m′) events′ states′ anchors′ handles′ =
       On tokens text terms count events states anchors handles m events′ states′ anchors′ handles′ m′
   Turned went.Ended events′ states′ anchors′ handles′ =
-      Ended (rest tokens text terms (places events 48 - count) (modelOf states anchors handles m)) count events events′
+      Ended (rest tokens text terms (places events event-size - count) (modelOf states anchors handles m)) count events events′
   Turned (went.Stopped e) events′ states′ anchors′ handles′ =
-      Stopped (rest tokens text terms (places events 48 - count) (modelOf states anchors handles m)) (e .number) (e .place) events events′
+      Stopped (rest tokens text terms (places events event-size - count) (modelOf states anchors handles m)) (e .number) (e .place) events events′

@@ -32,7 +32,7 @@ enum Opened {
 }
 
 // What applying a step comes to.
-pub enum Applied {
+pub(crate) enum Applied {
     Next(Machine),
     Stuck,
 }
@@ -188,7 +188,7 @@ fn advanced(m: Machine, opened: Opened, names: usize, handles: usize, next: u32)
 }
 
 // Applies a step that was taken.
-pub fn apply(
+pub(crate) fn apply(
     tokens: &[u8],
     text: &[u8],
     states: &mut [u8],

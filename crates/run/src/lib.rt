@@ -4,6 +4,7 @@ ghost use Prim.Native.Nat.{suc, _<_};
 ghost use lib.ListN.{length};
 ghost use Rattle.places.specs.Places.{places};
 ghost use Rattle.records.specs.Checks.{firstChecks};
+ghost use Rattle.records.specs.Events.{event-size};
 ghost use Rattle.rules.specs.Run.{ended, fresh};
 ghost use Rattle.run.specs.Run.{told, runs, left, roomsOf, checkedRun};
 ghost use Rattle.run.specs.Turns.{stopped, answered, tell, termsOf, Cleared, Ready, Here, Taking, Turned, rest};
@@ -20,6 +21,9 @@ use records::checks::Checked;
 use records::events;
 use records::tokens::Refusal;
 use rules::State;
+use tables::anchors::Anchor;
+use tables::handles::Handle;
+use tables::states::OpenState;
 
 // keep: tag directives stay in force behind a document's end. forget: a document forgets the anchors before it.
 pub struct Settings {
@@ -32,6 +36,11 @@ pub struct Answer {
     pub number: u32,
     pub count: u32,
     pub place: u32,
+}
+
+// Bytes of an answer at the face, 4 for each number.
+impl Answer {
+    pub const SIZE: usize = 12;
 }
 
 // How a turn of the run ends.
@@ -73,9 +82,9 @@ fn terms_of(settings: Settings, states: usize, anchors: usize, handles: usize) -
     ensures { λ r. ⌜ r ≡ termsOf settings states anchors handles ⌝ }
 {
     Terms {
-        states: states / 8,
-        names: anchors / 12,
-        handles: handles / 16,
+        states: states / OpenState::SIZE,
+        names: anchors / Anchor::SIZE,
+        handles: handles / Handle::SIZE,
         keep: settings.keep,
         forget: settings.forget,
     }
@@ -85,7 +94,7 @@ fn is_end(state: State) -> bool
     ensures { λ r. ⌜ r ≡ ended state ⌝ }
 {
     let p = state.numbers();
-    p.rank == 21
+    p.rank == State::END
 }
 
 fn clear_work(states: &mut [u8], anchors: &mut [u8], handles: &mut [u8])
@@ -159,7 +168,7 @@ fn steps(
     handles: &mut [u8],
 ) -> Answer
     requires { ⌜ Ready (now tokens) (now text) terms (now states) (now anchors) (now handles) ⌝ }
-    ensures { λ r. ⌜ tell r (now (events .exit)) ≡ told (now (events .entry)) (rest (now (tokens .entry)) (now (text .entry)) terms (places (now (events .entry)) 48) fresh) ⌝ }
+    ensures { λ r. ⌜ tell r (now (events .exit)) ≡ told (now (events .entry)) (rest (now (tokens .entry)) (now (text .entry)) terms (places (now (events .entry)) event-size) fresh) ⌝ }
 {
     let mut m = Machine::fresh();
     let mut count: usize = 0;

@@ -5,6 +5,7 @@ use Prim.Native.Nat.{_-_}
 use borrow.Author.Needs.{needs}
 use lib.ListN.{length}
 use Rattle.places.specs.Places.{places}
+use Rattle.records.specs.Events.{event-size}
 use Rattle.run.specs.Turns.{Turned}
 use Rattle.run.proofs.TurnLaws.{Going, few, going-start, going-on, going-ends, going-stops}
 use Rattle.run.proofs.steps.Statement.{statement}
@@ -16,7 +17,7 @@ Inv-loop tokens text terms events₀ states₀ anchors₀ handles₀ m₀ count�
     × (length events ≡ length events₀) × (length states ≡ length states₀) × (length anchors ≡ length anchors₀) × (length handles ≡ length handles₀)
 
 abbrev μ-loop : tie.MeasureT-loop
-μ-loop tokens text terms events₀ states₀ anchors₀ handles₀ m₀ count₀ events states anchors handles m count = places events₀ 48 - count
+μ-loop tokens text terms events₀ states₀ anchors₀ handles₀ m₀ count₀ events states anchors handles m count = places events₀ event-size - count
 
 loop-holds : tie.Need-loop-holds Inv-loop μ-loop
 loop-holds c =

@@ -5,6 +5,7 @@ use mathlib.Core.Path.{_≡_, sym, _∙_}
 use Prim.Native.Nat.{suc, _-_, _≤_, _<_}
 use borrow.Author.Needs.{needs}
 use Rattle.places.specs.Places.{places}
+use Rattle.records.specs.Tokens.{token-size}
 use Rattle.rules.specs.Rules.{explicit-document-start}
 use Rattle.parser.specs.Machine.{lent, given}
 use Rattle.parser.specs.Answers.{decided}
@@ -15,10 +16,10 @@ use Rattle.parser.proofs.Machine.explicit_document_start.Tie as tie
 
 abbrev Inv-loop : tie.InvT-loop
 Inv-loop self tokens text names tags terms at i₀ version₀ used₀ i version used =
-    (at ≤ i) × (decided (lent tokens text names tags terms) self (λ g m. explicit-document-start g m at) ≡ onward (lent tokens text names tags terms) self at (places tokens 32 - i) i version) × (used ≡ declared-to (lent tokens text names tags terms) self at i)
+    (at ≤ i) × (decided (lent tokens text names tags terms) self (λ g m. explicit-document-start g m at) ≡ onward (lent tokens text names tags terms) self at (places tokens token-size - i) i version) × (used ≡ declared-to (lent tokens text names tags terms) self at i)
 
 abbrev μ-loop : tie.MeasureT-loop
-μ-loop self tokens text names tags terms at i₀ version₀ used₀ i version used = places tokens 32 - i
+μ-loop self tokens text names tags terms at i₀ version₀ used₀ i version used = places tokens token-size - i
 
 loop-holds : tie.Need-loop-holds Inv-loop μ-loop
 unfolding lent
@@ -41,8 +42,8 @@ goes : (c : tie.After-known-told2 Inv-loop μ-loop) →
     let a = c .before .before .before .before .before .before .before .before .before .args in
     let l = c .before .before .before .before .loop in
     let x = lent (a .tokens .now) (a .text .now) (a .names .now) (a .tags .now) (a .terms) in
-    (l .i < places (a .tokens .now) 32)
-    × (onward x (a .self) (a .at) (places (a .tokens .now) 32 - l .i) (l .i) (l .version) ≡ onward x (a .self) (a .at) (places (a .tokens .now) 32 - suc (l .i)) (suc (l .i)) (c .before .met2 .given .0 .0))
+    (l .i < places (a .tokens .now) token-size)
+    × (onward x (a .self) (a .at) (places (a .tokens .now) token-size - l .i) (l .i) (l .version) ≡ onward x (a .self) (a .at) (places (a .tokens .now) token-size - suc (l .i)) (suc (l .i)) (c .before .met2 .given .0 .0))
     × (c .before .met2 .given .0 .1 .0 ≡ declared-to x (a .self) (a .at) (suc (l .i)))
 unfolding lent
 goes c =

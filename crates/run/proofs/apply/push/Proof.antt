@@ -3,7 +3,6 @@ use mathlib.Core.Path.{sym, _∙_}
 use borrow.Author.Needs.{needs}
 use Rattle.places.proofs.PlaceLaws.{below}
 use Rattle.tables.specs.States.{numbersOf}
-use Rattle.tables.proofs.StateLaws.{Small}
 use Rattle.run.proofs.ApplyLaws.{pushed, not-pushed}
 use Rattle.run.proofs.apply.push.Statement.{statement}
 use Rattle.run.proofs.apply.push.Tie as tie
@@ -20,8 +19,7 @@ returns c =
     let a = c .before .before .before .before .before .before .before .args in
     let put = c .before .before .before .put-state in
     let s = c .before .before .before .before .before .numbers in
-    let small : Small (s .result) = omega (arith, s .ok) in
-    pushed (a .bytes .now) (a .n) (a .p) (s .result) (s .ensures) (put .result) (put .last .0) (put .ensures) small (c .if1 .taken)
+    pushed (a .bytes .now) (a .n) (a .p) (s .result) (s .ensures) (put .result) (put .last .0) (put .ensures) (c .if1 .taken)
 
 returns-2 : tie.Need-returns-2
 returns-2 c =

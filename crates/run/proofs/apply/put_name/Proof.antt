@@ -3,7 +3,6 @@ use mathlib.Core.Path.{sym, _∙_}
 use borrow.Author.Needs.{needs}
 use Rattle.places.proofs.PlaceLaws.{below}
 use Rattle.tables.specs.Anchors.{numbersOf}
-use Rattle.tables.proofs.AnchorLaws.{Small}
 use Rattle.run.proofs.ApplyLaws.{named-next, named-own, not-named}
 use Rattle.run.proofs.apply.put_name.Statement.{statement}
 use Rattle.run.proofs.apply.put_name.Tie as tie
@@ -20,24 +19,21 @@ returns c =
     let s = c .before .before .before .before .before .before .before in
     let a = s .args in
     let put = c .before .before .before .before .put-anchor in
-    let small : Small (a .a) = omega (arith, s .good) in
-    named-next (a .bytes .now) (a .n) (a .i) (a .a) small (put .result) (put .last .0) (put .ensures) (c .if2 .taken)
+    named-next (a .bytes .now) (a .n) (a .i) (a .a) (put .result) (put .last .0) (put .ensures) (c .if2 .taken)
 
 returns-2 : tie.Need-returns-2
 returns-2 c =
     let s = c .before .before .before .before .before .before .before in
     let a = s .args in
     let put = c .before .before .before .before .put-anchor in
-    let small : Small (a .a) = omega (arith, s .good) in
-    named-own (a .bytes .now) (a .n) (a .i) (a .a) small (put .result) (put .last .0) (put .ensures) (c .if2 .left)
+    named-own (a .bytes .now) (a .n) (a .i) (a .a) (put .result) (put .last .0) (put .ensures) (c .if2 .left)
 
 returns-3 : tie.Need-returns-3
 returns-3 c =
     let s = c .before .before .before .before .before .before in
     let a = s .args in
     let put = c .before .before .before .put-anchor in
-    let small : Small (a .a) = omega (arith, s .good) in
-    not-named (a .bytes .now) (a .n) (a .i) (a .a) small (put .result) (put .last .0) (put .ensures) (c .if1 .left)
+    not-named (a .bytes .now) (a .n) (a .i) (a .a) (put .result) (put .last .0) (put .ensures) (c .if1 .left)
 
 pub put-name-spec : {M : Type 1} → statement M
 put-name-spec =
