@@ -11,11 +11,11 @@ use Rattle.places.specs.Words.{word, encode}
 use Rattle.places.specs.Places.{places, hasPlace, fieldOf}
 use Rattle.places.proofs.WordLaws.{length-encode, word-encode}
 use Rattle.records.specs.Names.{noRange, rangeOf}
-use Rattle.records.specs.Tokens.{usesA, usesB, usesStyle, rangeIf, styleIf, tokenAt, good, lastEnd, readAt}
+use Rattle.records.specs.Tokens.{token-size, usesA, usesB, usesStyle, rangeIf, styleIf, tokenAt, good, lastEnd, readAt}
 use Rattle.records.specs.declared.names.Range.{Range}
 use Rattle.records.specs.declared.tokens.Token.{Token}
 use Rattle.records.specs.declared.tokens.Read.the-variants as read
-use Rattle.records.specs.Checks.{goodRun, checkRecords, firstChecks}
+use Rattle.records.specs.Checks.{most-tokens, most-text, goodRun, checkRecords, firstChecks}
 use Rattle.records.specs.declared.checks.Checked.the-variants as checked
 use Rattle.records.proofs.TokenLaws.{past-end}
 use Rattle.rules.specs.Lists.{read-in, last-end, listed, in-bytes}
@@ -54,7 +54,7 @@ unfolding as-bytes
 length-bytes [] = refl
 length-bytes (t ∷ ts) = length-append (encode (numbers t)) (as-bytes ts) ∙ omega (arith, length-numbers t, length-bytes ts)
 
-pub places-bytes : (ts : List Token) → places (as-bytes ts) 32 ≡ length ts
+pub places-bytes : (ts : List Token) → places (as-bytes ts) token-size ≡ length ts
 places-bytes ts = rw (length-bytes ts) (omega arith)
 
 pub and-both : (a b : Bool) → a && b ≡ true → (a ≡ true) × (b ≡ true)
@@ -99,18 +99,18 @@ word-at size (t ∷ ts) zero k l m h =
     let e : 32 * zero + 4 * k ≡ 4 * k = omega arith in
     let p = parts size t (and-both (sound size t) (all-sound size ts) h .0) in
     let n = length-numbers t in
-    rw e (word-before (encode (numbers t)) (as-bytes ts) (4 * k) (omega arith) ∙ word-encode (numbers t) k (eight t k m) (p .fits k))
+    rw e (word-before (encode (numbers t)) (as-bytes ts) (4 * k) (omega arith) ∙ word-encode (numbers t) k (eight t k m))
 word-at size (t ∷ ts) (suc i) k l m h =
     let n = length-numbers t in
     let e : 32 * suc i + 4 * k ≡ length (encode (numbers t)) + (32 * i + 4 * k) = omega arith in
     rw e (word-after (encode (numbers t)) (as-bytes ts) (32 * i + 4 * k) ∙ word-at size ts i k (omega arith) m (and-both (sound size t) (all-sound size ts) h .1))
 
 field-at : (size : ℕ) (ts : List Token) (i k : ℕ) → i < length ts → k < 8 → all-sound size ts ≡ true
-    → fieldOf (as-bytes ts) 32 i k ≡ getD (numbers (getD ts i no-token)) k 0
+    → fieldOf (as-bytes ts) token-size i k ≡ getD (numbers (getD ts i no-token)) k 0
 unfolding fieldOf hasPlace
 field-at size ts i k l m h =
     let p = places-bytes ts in
-    rw (lt-ltb k 8 m, lt-ltb i (places (as-bytes ts) 32) (omega arith)) (word-at size ts i k l m h)
+    rw (lt-ltb k 8 m, lt-ltb i (places (as-bytes ts) token-size) (omega arith)) (word-at size ts i k l m h)
 
 no-range : (r : Range) → r .from ≡ 0 → r .to ≡ 0 → noRange ≡ r
 unfolding noRange
@@ -134,7 +134,7 @@ end-of t = refl
 token-at : (size : ℕ) (ts : List Token) (i : ℕ) → i < length ts → all-sound size ts ≡ true → tokenAt (as-bytes ts) i ≡ getD ts i no-token
 unfolding tokenAt rangeIf styleIf rangeOf numbers
 token-at size ts i l h =
-    let f : (k : ℕ) → k < 8 → fieldOf (as-bytes ts) 32 i k ≡ getD (numbers (getD ts i no-token)) k 0 = λ k m. field-at size ts i k l m h in
+    let f : (k : ℕ) → k < 8 → fieldOf (as-bytes ts) token-size i k ≡ getD (numbers (getD ts i no-token)) k 0 = λ k m. field-at size ts i k l m h in
     let t = getD ts i no-token in
     let p = parts size t (sound-at size ts i l h) in
     rw (f 0 (omega arith), f 1 (omega arith), f 2 (omega arith), f 3 (omega arith), f 4 (omega arith), f 5 (omega arith), f 6 (omega arith), f 7 (omega arith))
@@ -145,7 +145,7 @@ pub read-at : (size : ℕ) (ts : List Token) → all-sound size ts ≡ true → 
 unfolding readAt
 read-at size ts h i l =
     let p = places-bytes ts in
-    rw (lt-leb (places (as-bytes ts) 32) i (omega arith), token-at size ts i l h, parts size (getD ts i no-token) (sound-at size ts i l h) .is-good)
+    rw (lt-leb (places (as-bytes ts) token-size) i (omega arith), token-at size ts i l h, parts size (getD ts i no-token) (sound-at size ts i l h) .is-good)
 
 last-is : (t : Token) (ts : List Token) → last-end (t ∷ ts) ≡ getD (t ∷ ts) (length ts) no-token .end
 unfolding last-end
@@ -157,9 +157,9 @@ unfolding lastEnd last-end as-bytes
 end-at size [] h = refl
 end-at size (t ∷ ts) h =
     let p = places-bytes (t ∷ ts) in
-    let d : places (as-bytes (t ∷ ts)) 32 ≡ 0 → ⊥ = λ e. omega arith in
-    let q : places (as-bytes (t ∷ ts)) 32 - 1 ≡ length ts = omega arith in
-    rw (ne-eqb (places (as-bytes (t ∷ ts)) 32) 0 d, q) (field-at size (t ∷ ts) (length ts) 2 (omega arith) (omega arith) h ∙ end-of (getD (t ∷ ts) (length ts) no-token) ∙ sym (last-is t ts))
+    let d : places (as-bytes (t ∷ ts)) token-size ≡ 0 → ⊥ = λ e. omega arith in
+    let q : places (as-bytes (t ∷ ts)) token-size - 1 ≡ length ts = omega arith in
+    rw (ne-eqb (places (as-bytes (t ∷ ts)) token-size) 0 d, q) (field-at size (t ∷ ts) (length ts) 2 (omega arith) (omega arith) h ∙ end-of (getD (t ∷ ts) (length ts) no-token) ∙ sym (last-is t ts))
 
 -- a list of tokens as bytes is that list, and passes the first checks
 pub reads-back : (size : ℕ) (ts : List Token) → all-sound size ts ≡ true → (i : ℕ) → readAt (as-bytes ts) size i ≡ read-in (last-end ts) ts i
@@ -183,9 +183,9 @@ unfolding goodRun
 found-all size ts h at zero e = omega arith
 found-all size ts h at (suc left) e = rw (read-at size ts h at (omega arith)) (found-all size ts h (at + 1) left (omega arith))
 
-pub checks-pass : (size : ℕ) (ts : List Token) → all-sound size ts ≡ true → length ts ≤ 65536 → size ≤ 16777216 → firstChecks (as-bytes ts) size ≡ checked.Passed (length ts)
+pub checks-pass : (size : ℕ) (ts : List Token) → all-sound size ts ≡ true → length ts ≤ most-tokens → size ≤ most-text → firstChecks (as-bytes ts) size ≡ checked.Passed (length ts)
 unfolding firstChecks checkRecords
 checks-pass size ts h few short =
     let n = length-bytes ts in
-    let m : length (as-bytes ts) % 32 ≡ 0 = omega arith in
-    rw (eq-eqb (length (as-bytes ts) % 32) 0 m, places-bytes ts, le-ltb 65536 (length ts) few, le-ltb 16777216 size short, found-all size ts h 0 (length ts) (omega arith), le-ltb (length ts) (length ts) (omega arith))
+    let m : length (as-bytes ts) % token-size ≡ 0 = omega arith in
+    rw (eq-eqb (length (as-bytes ts) % token-size) 0 m, places-bytes ts, le-ltb most-tokens (length ts) few, le-ltb most-text size short, found-all size ts h 0 (length ts) (omega arith), le-ltb (length ts) (length ts) (omega arith))

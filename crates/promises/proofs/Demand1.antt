@@ -1,5 +1,5 @@
 -- Demand 1: any input, one answer. Each sentence of it, of any call. Assumes nothing.
-use mathlib.Core.Path.{_≡_, refl}
+use mathlib.Core.Path.{_≡_, refl, sym, _∙_}
 use mathlib.Core.Bool.{Bool, true, false, not, cond, _||_}
 use mathlib.Core.List.{List}
 use mathlib.Core.Logic.{_⊎_, inl, inr}
@@ -9,7 +9,8 @@ use borrow.Author.Tests.{le-leb, lt-leb, eqb-true}
 use lib.Dec.{ltb, eqb}
 use lib.ListN.{length, getD}
 use Rattle.places.specs.Places.{places}
-use Rattle.records.specs.Checks.{goodRun, refusing, checkRecords, firstChecks}
+use Rattle.records.specs.Checks.{most-tokens, most-text, goodRun, refusing, checkRecords, firstChecks}
+use Rattle.records.specs.Says.{Number, checkedSays}
 use Rattle.records.specs.declared.tokens.Refusal.{Refusal}
 use Rattle.records.specs.declared.checks.Checked.{Checked}
 use Rattle.records.specs.declared.checks.Checked.the-variants as checked
@@ -20,41 +21,54 @@ use Rattle.rules.specs.Run.{Rooms}
 use Rattle.rules.proofs.ListLaws.{checked-list}
 use Rattle.rules.proofs.Runs as rules
 use Rattle.rules.proofs.NeverStuck.{Answer, plain, no-event, no-place, answered, short-range}
-use Rattle.records.specs.Events.{written}
-use Rattle.run.specs.Run.{runs, told, checkedRun}
-use Rattle.promises.specs.Demands.{Call, after, known, of-first-checks, Zero, given, rooms, by-rules}
+use Rattle.records.specs.Events.{event-size, written}
+use Rattle.records.specs.Tokens.{token-size}
+use Rattle.run.specs.Run.{Left, left, runs, told, checkedRun}
+use Rattle.face.specs.Face.{on}
+use Rattle.promises.specs.Calls.{Call, Leaves, by-run, by-face}
+use Rattle.promises.specs.Demands.{after, known, of-first-checks, Zero, given, rooms, by-rules}
+use Rattle.promises.proofs.AtTheFace.{face-leaves}
 use Rattle.promises.proofs.ByteLaws.{false-true}
 use Rattle.promises.proofs.WrittenLaws.{written-other, cleared-zero}
 
+-- a call leaves what the run of `Run.antt` leaves, whichever function was called
+pub leaves : {c : Call} {l : Left} → Leaves c l → l ≡ after c
+unfolding after left on
+leaves (by-run κs a x s k) = k
+leaves (by-face κs a x s k room) = face-leaves _ _ _ _ _ _ _ _ _ _ _ _ _ _ _ room k
+
 -- a call that runs: the answer and the events are the rules'
-pub record Ran (c : Call) : Type 0 where
-  pub number : after c .answer .number ≡ by-rules c .number
-  pub count : after c .answer .count ≡ length (by-rules c .events)
-  pub place : after c .answer .place ≡ by-rules c .place
-  pub events : after c .events ≡ written (c .events) 0 (by-rules c .events)
+pub record Ran (c : Call) (l : Left) : Type 0 where
+  pub number : l .answer .number ≡ by-rules c .number
+  pub count : l .answer .count ≡ length (by-rules c .events)
+  pub place : l .answer .place ≡ by-rules c .place
+  pub events : l .events ≡ written (c .events) 0 (by-rules c .events)
+
+abbrev pub checks : Call → Checked
+checks c = firstChecks (c .tokens) (length (c .text))
 
 abbrev pub Passes : Call → Type 0
-Passes c = firstChecks (c .tokens) (length (c .text)) ≡ checked.Passed (places (c .tokens) 32)
+Passes c = checks c ≡ checked.Passed (places (c .tokens) token-size)
 
-pub ran : (c : Call) → Passes c → Ran c
+pub ran : {c : Call} {l : Left} → Leaves c l → Passes c → Ran c l
 unfolding after runs checkedRun told by-rules given rooms
-ran c q = record { number = rw q; count = rw q; place = rw q; events = rw q }
+ran k q = let e = leaves k in record { number = rw (e, q); count = rw (e, q); place = rw (e, q); events = rw (e, q) }
 
--- what the first checks say of a call
-pub data Judged (c : Call) : Type 0 where
-  refused : (number : ℕ) → of-first-checks number ≡ true → after c .answer .number ≡ number → after c .answer .count ≡ 0
-      → after c .events ≡ c .events → Judged c
-  passed-on : Passes c → Ran c → Judged c
+-- what the first checks say of a call: a number and its place, which are the answer's, or nothing
+pub data Judged (c : Call) (l : Left) : Type 0 where
+  refused : (number place : ℕ) → checkedSays (checks c) ≡ Number number place → of-first-checks number ≡ true → l .answer .number ≡ number
+      → l .answer .place ≡ place → l .answer .count ≡ 0 → l .events ≡ c .events → Judged c l
+  passed-on : Passes c → Ran c l → Judged c l
 
 -- the first checks refuse with 20, 26, 27 or 21
 numbered : (b : List ℕ) (size : ℕ) (e : Refusal) → firstChecks b size ≡ checked.Refused e → of-first-checks (e .number) ≡ true
 unfolding firstChecks checkRecords refusing of-first-checks
 numbered b size e q =
-    go (eqb (length b % 32) 0) (ltb 65536 (places b 32)) (ltb 16777216 size) (ltb (goodRun b size 0 (places b 32)) (places b 32)) q where
+    go (eqb (length b % token-size) 0) (ltb most-tokens (places b token-size)) (ltb most-text size) (ltb (goodRun b size 0 (places b token-size)) (places b token-size)) q where
       is : (n p : ℕ) → checked.Refused (record { number = n; place = p }) ≡ checked.Refused e → of-first-checks n ≡ true → of-first-checks (e .number) ≡ true
       is n p r k = let i : n ≡ e .number = cc in rw i at k
 
-      go : (w m t r : Bool) → cond (not w) (refusing 20 0) (cond m (refusing 26 0) (cond t (refusing 27 0) (cond r (refusing 21 (goodRun b size 0 (places b 32) % 2 ^ 32)) (checked.Passed (places b 32))))) ≡ checked.Refused e
+      go : (w m t r : Bool) → cond (not w) (refusing 20 0) (cond m (refusing 26 0) (cond t (refusing 27 0) (cond r (refusing 21 (goodRun b size 0 (places b token-size) % 2 ^ 32)) (checked.Passed (places b token-size))))) ≡ checked.Refused e
           → of-first-checks (e .number) ≡ true
       go false m t r q = is 20 0 q refl
       go true true t r q = is 26 0 q refl
@@ -62,14 +76,18 @@ numbered b size e q =
       go true false false true q = is 21 _ q refl
       go true false false false q = let z : _≡_ {A = ℕ} 0 1 = cc in absurd (omega arith)
 
-pub judged : (c : Call) → Judged c
+pub judged : {c : Call} {l : Left} → Leaves c l → Judged c l
 unfolding after runs checkedRun
-judged c = go (firstChecks (c .tokens) (length (c .text))) refl where
-  go : (k : Checked) → firstChecks (c .tokens) (length (c .text)) ≡ k → Judged c
-  go (checked.Refused e) q = refused (e .number) (numbered (c .tokens) (length (c .text)) e q) (rw q) (rw q) (rw q)
+judged {c = c} {l = l} k = go (checks c) refl where
+  e : l ≡ after c
+  e = leaves k
+
+  go : (r : Checked) → checks c ≡ r → Judged c l
+  go (checked.Refused f) q =
+      refused (f .number) (f .place) (rw q) (numbered (c .tokens) (length (c .text)) f q) (rw (e, q)) (rw (e, q)) (rw (e, q)) (rw (e, q))
   go (checked.Passed n) q =
-      let i : n ≡ places (c .tokens) 32 = passed (c .tokens) (length (c .text)) n q .count in
-      passed-on (rw i at q) (ran c (rw i at q))
+      let i : n ≡ places (c .tokens) token-size = passed (c .tokens) (length (c .text)) n q .count in
+      passed-on (rw i at q) (ran k (rw i at q))
 
 -- the numbers of the run itself are 0 to 14 and 22 to 25
 abbrev pub Of-run : ℕ → Type 0
@@ -106,10 +124,10 @@ not-first n h = go (first-range n h) where
   go (inr r) (inr k) = omega arith
 
 -- an accepted call passed the first checks
-pub accepted-passes : (c : Call) → after c .answer .number ≡ 0 → Passes c
-accepted-passes c z = go (judged c) where
-  go : Judged c → Passes c
-  go (refused n k e f h) = absurd (not-first n k (inl (omega arith)))
+pub accepted-passes : {c : Call} {l : Left} → Leaves c l → l .answer .number ≡ 0 → Passes c
+accepted-passes {c = c} {l = l} k z = go (judged k) where
+  go : Judged c l → Passes c
+  go (refused n p s h e f z′ w) = absurd (not-first n h (inl (omega arith)))
   go (passed-on q r) = q
 
 first-number : (n : ℕ) → of-first-checks n ≡ true → known n ≡ true
@@ -120,60 +138,72 @@ first-number n h = go (first-range n h) where
   go (inr r) = rw (lt-leb n 14 (omega arith), le-leb 20 n (omega arith), le-leb n 27 (omega arith))
 
 -- what the run of a list that passed answers
-pub ruled : (c : Call) → firstChecks (c .tokens) (length (c .text)) ≡ checked.Passed (places (c .tokens) 32)
-    → Answer (rooms c) (given c) (places (c .events) 48) (by-rules c .number)
+pub ruled : (c : Call) → firstChecks (c .tokens) (length (c .text)) ≡ checked.Passed (places (c .tokens) token-size)
+    → Answer (rooms c) (given c) (places (c .events) event-size) (by-rules c .number)
 unfolding by-rules given
-ruled c q = answered (rooms c) (checked-list (c .tokens) (places (c .tokens) 32) (c .text) (c .settings .keep) (c .settings .forget) q) (places (c .events) 48)
-
--- "one answer with a number": one of document 01's
-pub a-number : (c : Call) → known (after c .answer .number) ≡ true
-a-number c = go (judged c) where
-  go : Judged c → known (after c .answer .number) ≡ true
-  go (refused n k e f h) = rw e (first-number n k)
-  go (passed-on q r) = rw (r .number) (run-number _ (run-range (ruled c q)))
-
--- "A list that fails the first checks writes no event."
-pub no-event-written : (c : Call) → of-first-checks (after c .answer .number) ≡ true → (after c .answer .count ≡ 0) × (after c .events ≡ c .events)
-no-event-written c = go (judged c) where
-  go : Judged c → of-first-checks (after c .answer .number) ≡ true → (after c .answer .count ≡ 0) × (after c .events ≡ c .events)
-  go (refused n k e f h) i = (f, h)
-  go (passed-on q r) i = absurd (not-first _ i (rw (r .number) (run-range (ruled c q))))
+ruled c q = answered (rooms c) (checked-list (c .tokens) (places (c .tokens) token-size) (c .text) (c .settings .keep) (c .settings .forget) q) (places (c .events) event-size)
 
 -- as many events as there is room for
-pub fits : (c : Call) → length (by-rules c .events) ≤ places (c .events) 48
+pub fits : (c : Call) → length (by-rules c .events) ≤ places (c .events) event-size
 unfolding by-rules
-fits c = let n = rules.ran (rooms c) (given c) (places (c .events) 48) .room in omega arith
+fits c = let n = rules.ran (rooms c) (given c) (places (c .events) event-size) .room in omega arith
 
--- the events that are counted have room
-pub count-fits : (c : Call) → after c .answer .count ≤ places (c .events) 48
-count-fits c = go (judged c) where
-  go : Judged c → after c .answer .count ≤ places (c .events) 48
-  go (refused n k e f h) = rw f (omega arith)
-  go (passed-on q r) = rw (r .count) (fits c)
+module _ {c : Call} {l : Left} (k : Leaves c l) where
+  -- "one answer with a number": one of document 01's
+  pub a-number : known (l .answer .number) ≡ true
+  a-number = go (judged k) where
+    go : Judged c l → known (l .answer .number) ≡ true
+    go (refused n p s h e f z w) = rw e (first-number n h)
+    go (passed-on q r) = rw (r .number) (run-number _ (run-range (ruled c q)))
 
--- "the events before it stand and the rest of the event buffer is untouched"
-pub rest-untouched : (c : Call) (i : ℕ) → 48 * after c .answer .count ≤ i → getD (after c .events) i 0 ≡ getD (c .events) i 0
-rest-untouched c i l = go (judged c) where
-  go : Judged c → getD (after c .events) i 0 ≡ getD (c .events) i 0
-  go (refused n k e f h) = rw h
-  go (passed-on q r) = rw (r .events) (written-other (by-rules c .events) (c .events) 0 i (inr (omega (arith, r .count))))
+  -- "A list that fails the first checks writes no event": their number and place are the answer
+  pub no-event-written : (n p : ℕ) → checkedSays (checks c) ≡ Number n p
+      → (l .answer .number ≡ n) × (l .answer .count ≡ 0) × (l .answer .place ≡ p) × (l .events ≡ c .events)
+  no-event-written n p s = go (judged k) where
+    go : Judged c l → (l .answer .number ≡ n) × (l .answer .count ≡ 0) × (l .answer .place ≡ p) × (l .events ≡ c .events)
+    go (refused m o t h e f z w) =
+        let i : Number m o ≡ Number n p = sym t ∙ s in
+        let a : m ≡ n = cc in
+        let b : o ≡ p = cc in
+        (e ∙ a, z, f ∙ b, w)
+    go (passed-on q r) = let z : _≡_ {A = ℕ} 0 1 = cc in absurd (omega arith)
 
-pub events-long : (c : Call) → length (after c .events) ≡ length (c .events)
-events-long c = go (judged c) where
-  go : Judged c → length (after c .events) ≡ length (c .events)
-  go (refused n k e f h) = rw h
-  go (passed-on q r) = rw (r .events) (length-written (c .events) 0 (by-rules c .events))
+  -- and no other answer has one of their numbers
+  pub by-first-checks : of-first-checks (l .answer .number) ≡ true → checkedSays (checks c) ≡ Number (l .answer .number) (l .answer .place)
+  by-first-checks i = go (judged k) where
+    go : Judged c l → checkedSays (checks c) ≡ Number (l .answer .number) (l .answer .place)
+    go (refused m o t h e f z w) = rw (e, f) t
+    go (passed-on q r) = absurd (not-first _ i (rw (r .number) (run-range (ruled c q))))
 
--- "Work memory ends all zero"
-module _ (c : Call) where
-  pub states-zero : Zero (length (c .states)) (after c .states)
+  -- the events that are counted have room
+  pub count-fits : l .answer .count ≤ places (c .events) event-size
+  count-fits = go (judged k) where
+    go : Judged c l → l .answer .count ≤ places (c .events) event-size
+    go (refused n p s h e f z w) = rw z (omega arith)
+    go (passed-on q r) = rw (r .count) (fits c)
+
+  -- "the events before it stand and the rest of the event buffer is untouched"
+  pub rest-untouched : (i : ℕ) → event-size * l .answer .count ≤ i → getD (l .events) i 0 ≡ getD (c .events) i 0
+  rest-untouched i b = go (judged k) where
+    go : Judged c l → getD (l .events) i 0 ≡ getD (c .events) i 0
+    go (refused n p s h e f z w) = rw w
+    go (passed-on q r) = rw (r .events) (written-other (by-rules c .events) (c .events) 0 i (inr (omega (arith, r .count))))
+
+  pub events-long : length (l .events) ≡ length (c .events)
+  events-long = go (judged k) where
+    go : Judged c l → length (l .events) ≡ length (c .events)
+    go (refused n p s h e f z w) = rw w
+    go (passed-on q r) = rw (r .events) (length-written (c .events) 0 (by-rules c .events))
+
+  -- "Work memory ends all zero"
+  pub states-zero : Zero (length (c .states)) (l .states)
   unfolding after runs
-  states-zero = cleared-zero (c .states)
+  states-zero = rw (leaves k) (cleared-zero (c .states))
 
-  pub anchors-zero : Zero (length (c .anchors)) (after c .anchors)
+  pub anchors-zero : Zero (length (c .anchors)) (l .anchors)
   unfolding after runs
-  anchors-zero = cleared-zero (c .anchors)
+  anchors-zero = rw (leaves k) (cleared-zero (c .anchors))
 
-  pub handles-zero : Zero (length (c .handles)) (after c .handles)
+  pub handles-zero : Zero (length (c .handles)) (l .handles)
   unfolding after runs
-  handles-zero = cleared-zero (c .handles)
+  handles-zero = rw (leaves k) (cleared-zero (c .handles))

@@ -9,6 +9,7 @@ use borrow.Author.Tests.{eqb-true, leb-true, ltb-true}
 use lib.Dec.{eqb, leb, ltb}
 use lib.ListN.{length, getD}
 use Rattle.places.specs.Places.{places}
+use Rattle.records.specs.Checks.{most-tokens, most-text}
 use Rattle.records.specs.Names.{noRange}
 use Rattle.records.specs.Tokens.{good, within}
 use Rattle.records.specs.declared.checks.Checked.the-variants as checked
@@ -16,6 +17,7 @@ use Rattle.records.specs.declared.names.Range.{Range}
 use Rattle.records.specs.declared.events.Event.{Event}
 use Rattle.records.specs.declared.events.Tag.{Tag}
 use Rattle.records.specs.declared.tokens.Token.{Token}
+use Rattle.records.specs.Events.{event-size}
 use Rattle.rules.specs.Rules.Words.{Given, plain}
 use Rattle.rules.specs.Run.{Outcome}
 use Rattle.rules.specs.Lists.{listed}
@@ -24,24 +26,25 @@ use Rattle.rules.specs.Starred.{Pick, Case, bare, named, tagged, ev, scalar, al
 use Rattle.rules.proofs.ListLaws.{plain-list}
 use Rattle.rules.proofs.Rooms.{fitting, needs-bounded}
 use Rattle.rules.proofs.Starred.{starred-right}
-use Rattle.run.specs.Run.{roomsOf}
+use Rattle.run.specs.Run.{Left, roomsOf}
 use Rattle.promises.specs.Bytes.{as-bytes, numbers, small, empty, tidy, sound, all-sound}
-use Rattle.promises.specs.Demands.{Call, after, Holds, given, rooms, by-rules, Roomy, Lends, Shown, Said, Each}
+use Rattle.promises.specs.Calls.{Call, Leaves}
+use Rattle.promises.specs.Demands.{Holds, given, rooms, by-rules, Roomy, Lends, Shown, Said, Each}
 use Rattle.promises.proofs.ByteLaws.{and-both, checks-pass, given-back, places-bytes}
 use Rattle.promises.proofs.WrittenLaws.{written-each}
 use Rattle.promises.proofs.Demand1.{Passes, ran, fits}
 
 -- "Events, spans, anchor ids, resolved tags and the first refusal are equal to the step rules": number, place, and each event
 -- in its place
-pub record Right (c : Call) (o : Outcome) : Type 0 where
-  pub number : after c .answer .number ≡ o .number
-  pub place : after c .answer .place ≡ o .place
-  pub count : after c .answer .count ≡ length (o .events)
-  pub each : (k : ℕ) → k < length (o .events) → Holds (after c .events) k (getD (o .events) k (plain 0 0 0 0))
+pub record Right (l : Left) (o : Outcome) : Type 0 where
+  pub number : l .answer .number ≡ o .number
+  pub place : l .answer .place ≡ o .place
+  pub count : l .answer .count ≡ length (o .events)
+  pub each : (k : ℕ) → k < length (o .events) → Holds (l .events) k (getD (o .events) k (plain 0 0 0 0))
 
-pub every-event-right : (c : Call) → Passes c → Right c (by-rules c)
-every-event-right c p =
-    let r = ran c p in
+pub every-event-right : {c : Call} {l : Left} → Leaves c l → Passes c → Right l (by-rules c)
+every-event-right {c = c} k p =
+    let r = ran k p in
     let n = fits c in
     record {
       number = r .number;
@@ -54,8 +57,8 @@ every-event-right c p =
 pub record Written (c : Call) (ts : List Token) : Type 0 where
   pub bytes : c .tokens ≡ as-bytes ts
   pub sound : all-sound (length (c .text)) ts ≡ true
-  pub few : length ts ≤ 65536
-  pub short : length (c .text) ≤ 16777216
+  pub few : length ts ≤ most-tokens
+  pub short : length (c .text) ≤ most-text
 
 unfoldable pub on-list : Call → List Token → Given
 on-list c ts = listed ts (c .text) (c .settings .keep) (c .settings .forget)
@@ -73,10 +76,10 @@ unfolding by-rules rooms roomsOf on-list listed enough
 roomy-run c ts w m =
     let l = plain-list ts (c .text) (c .settings .keep) (c .settings .forget) in
     let b = needs-bounded l in
-    rw (written-given c ts w) (fitting l (rooms c) (places (c .events) 48) (record { events = omega arith; opens = omega arith; anchors = omega arith; handles = omega arith }))
+    rw (written-given c ts w) (fitting l (rooms c) (places (c .events) event-size) (record { events = omega arith; opens = omega arith; anchors = omega arith; handles = omega arith }))
 
-pub list-right : (c : Call) (ts : List Token) → Written c ts → Roomy c (length ts) → Right c (ample (on-list c ts))
-list-right c ts w m = rw (roomy-run c ts w m) at (every-event-right c (written-passes c ts w))
+pub list-right : {c : Call} {l : Left} → Leaves c l → (ts : List Token) → Written c ts → Roomy c (length ts) → Right l (ample (on-list c ts))
+list-right {c = c} k ts w m = rw (roomy-run c ts w m) at (every-event-right k (written-passes c ts w))
 
 range-is : (r s : Range) → same-range r s ≡ true → r ≡ s
 unfolding same-range
@@ -115,32 +118,32 @@ unfoldable below : ℕ → List Pick → Bool
 below n [] = true
 below n (p ∷ ps) = ltb (p .index) n && below n ps
 
-shown : (c : Call) (o : Outcome) (ps : List Pick) → Right c o → below (length (o .events)) ps ≡ true → picked (o .events) ps ≡ true → Shown (after c .events) ps
+shown : (l : Left) (o : Outcome) (ps : List Pick) → Right l o → below (length (o .events)) ps ≡ true → picked (o .events) ps ≡ true → Shown (l .events) ps
 unfolding below picked
-shown c o [] r h k = tt
-shown c o (p ∷ ps) r h k =
+shown l o [] r h k = tt
+shown l o (p ∷ ps) r h k =
     let x = and-both (ltb (p .index) (length (o .events))) _ h in
     let y = and-both (same-event (getD (o .events) (p .index) (plain 0 0 0 0)) (p .event)) _ k in
     let e = event-is _ _ (y .0) in
-    (rw e at (r .each (p .index) (ltb-true (p .index) (length (o .events)) (x .0))), shown c o ps r (x .1) (y .1))
+    (rw e at (r .each (p .index) (ltb-true (p .index) (length (o .events)) (x .0))), shown l o ps r (x .1) (y .1))
 
 -- a list that records can hold
 unfoldable fine : Case → Bool
-fine k = all-sound (length (k .text)) (k .tokens) && (leb (length (k .tokens)) 65536 && (leb (length (k .text)) 16777216 && below (k .count) (k .picks)))
+fine k = all-sound (length (k .text)) (k .tokens) && (leb (length (k .tokens)) most-tokens && (leb (length (k .text)) most-text && below (k .count) (k .picks)))
 
 lent-list : (k : Case) (c : Call) → Lends c k → on-list c (k .tokens) ≡ listed (k .tokens) (k .text) false (k .forget)
 unfolding on-list
 lent-list k c l = rw (l .text, l .keep, l .forget)
 
-said : (k : Case) → fine k ≡ true → check k ≡ true → (c : Call) → Lends c k → Said c k
+said : (k : Case) → fine k ≡ true → check k ≡ true → (c : Call) (l : Left) → Leaves c l → Lends c k → Said l k
 unfolding fine check as-said
-said k f h c l =
+said k f h c l called lends =
     let a = and-both (all-sound (length (k .text)) (k .tokens)) _ f in
-    let b = and-both (leb (length (k .tokens)) 65536) _ (a .1) in
-    let d = and-both (leb (length (k .text)) 16777216) _ (b .1) in
-    let w : Written c (k .tokens) = record { bytes = l .tokens; sound = rw (l .text) (a .0); few = leb-true (length (k .tokens)) 65536 (b .0); short = rw (l .text) (leb-true (length (k .text)) 16777216 (d .0)) } in
+    let b = and-both (leb (length (k .tokens)) most-tokens) _ (a .1) in
+    let d = and-both (leb (length (k .text)) most-text) _ (b .1) in
+    let w : Written c (k .tokens) = record { bytes = lends .tokens; sound = rw (lends .text) (a .0); few = leb-true (length (k .tokens)) most-tokens (b .0); short = rw (lends .text) (leb-true (length (k .text)) most-text (d .0)) } in
     let o = ample (listed (k .tokens) (k .text) false (k .forget)) in
-    let r : Right c o = rw (lent-list k c l) at (list-right c (k .tokens) w (l .room)) in
+    let r : Right l o = rw (lent-list k c lends) at (list-right called (k .tokens) w (lends .room)) in
     let n = and-both (eqb (o .number) (k .number)) _ h in
     let m = and-both (eqb (length (o .events)) (k .count)) _ (n .1) in
     let p = and-both (eqb (o .place) (k .place)) _ (m .1) in
@@ -149,14 +152,14 @@ said k f h c l =
       number = r .number ∙ eqb-true (o .number) (k .number) (n .0);
       count = r .count ∙ e;
       place = r .place ∙ eqb-true (o .place) (k .place) (p .0);
-      events = shown c o (k .picks) r (rw e (d .1)) (p .1);
+      events = shown l o (k .picks) r (rw e (d .1)) (p .1);
     }
 
 unfoldable all-fine : List Case → Bool
 all-fine [] = true
 all-fine (k ∷ ks) = fine k && all-fine ks
 
-each-said : (ks : List Case) → all-fine ks ≡ true → check-all ks ≡ true → Each (λ k. (c : Call) → Lends c k → Said c k) ks
+each-said : (ks : List Case) → all-fine ks ≡ true → check-all ks ≡ true → Each (λ k. (c : Call) (l : Left) → Leaves c l → Lends c k → Said l k) ks
 unfolding all-fine check-all
 each-said [] f h = tt
 each-said (k ∷ ks) f h =
@@ -169,5 +172,5 @@ unfolding all-fine fine below all-sound sound good within numbers small tidy emp
 starred-fine = refl
 
 -- the starred lists of document 01 as bytes, with room enough
-pub starred-on-bytes : Each (λ k. (c : Call) → Lends c k → Said c k) starred
+pub starred-on-bytes : Each (λ k. (c : Call) (l : Left) → Leaves c l → Lends c k → Said l k) starred
 starred-on-bytes = each-said starred starred-fine starred-right

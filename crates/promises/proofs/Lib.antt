@@ -1,7 +1,8 @@
 pub mod ByteLaws
 pub mod WrittenLaws
+pub mod Numbers
+pub mod AtTheFace
 pub mod Demand1
 pub mod Demand2
 pub mod Demand3
-pub mod AtTheFace
 pub mod TheWalk

@@ -12,44 +12,44 @@ use Rattle.places.specs.Words.{encode}
 use Rattle.places.specs.Places.{places, hasPlace, stored, zeroed}
 use Rattle.places.proofs.WordLaws.{length-encode, getD-sets, getD-sets-other}
 use Rattle.places.proofs.PlaceLaws.{room, length-stored}
-use Rattle.records.specs.Events.{numbersOf, written}
+use Rattle.records.specs.Events.{event-size, numbersOf, written}
 use Rattle.records.specs.declared.events.Event.{Event}
 use Rattle.run.specs.Run.{cleared}
 use Rattle.promises.specs.Demands.{Holds, Zero}
 
-length-event : (e : Event) → length (encode (numbersOf e)) ≡ 48
+length-event : (e : Event) → length (encode (numbersOf e)) ≡ event-size
 unfolding numbersOf
 length-event e = length-encode (numbersOf e)
 
 -- a byte outside the place stands, one inside is the event's
-stored-other : (b : List ℕ) (at : ℕ) (e : Event) (i : ℕ) → (i < 48 * at) ⊎ (48 * at + 48 ≤ i) → getD (stored b at (numbersOf e)) i 0 ≡ getD b i 0
+stored-other : (b : List ℕ) (at : ℕ) (e : Event) (i : ℕ) → (i < event-size * at) ⊎ (event-size * at + event-size ≤ i) → getD (stored b at (numbersOf e)) i 0 ≡ getD b i 0
 unfolding stored numbersOf
-stored-other b at e i h = go (hasPlace b 48 at) where
-  go : (t : Bool) → getD (cond t (sets b (48 * at) (encode (numbersOf e))) b) i 0 ≡ getD b i 0
-  go true = getD-sets-other (encode (numbersOf e)) b (48 * at) i (rw (length-event e) h)
+stored-other b at e i h = go (hasPlace b event-size at) where
+  go : (t : Bool) → getD (cond t (sets b (event-size * at) (encode (numbersOf e))) b) i 0 ≡ getD b i 0
+  go true = getD-sets-other (encode (numbersOf e)) b (event-size * at) i (rw (length-event e) h)
   go false = refl
 
-stored-in : (b : List ℕ) (at : ℕ) (e : Event) → at < places b 48 → Holds (stored b at (numbersOf e)) at e
+stored-in : (b : List ℕ) (at : ℕ) (e : Event) → at < places b event-size → Holds (stored b at (numbersOf e)) at e
 unfolding Holds stored hasPlace numbersOf
 stored-in b at e h j l =
-    let r = room at (length b) 48 h in
+    let r = room at (length b) event-size h in
     let n = length-event e in
-    rw (lt-ltb at (places b 48) h) (getD-sets (encode (numbersOf e)) b (48 * at) j (omega arith) (omega arith))
+    rw (lt-ltb at (places b event-size) h) (getD-sets (encode (numbersOf e)) b (event-size * at) j (omega arith) (omega arith))
 
 -- what stands before them and behind them
-pub written-other : (es : List Event) (b : List ℕ) (at i : ℕ) → (i < 48 * at) ⊎ (48 * (at + length es) ≤ i) → getD (written b at es) i 0 ≡ getD b i 0
+pub written-other : (es : List Event) (b : List ℕ) (at i : ℕ) → (i < event-size * at) ⊎ (event-size * (at + length es) ≤ i) → getD (written b at es) i 0 ≡ getD b i 0
 unfolding written
 written-other [] b at i h = refl
 written-other (e ∷ es) b at i (inl h) = written-other es (stored b at (numbersOf e)) (suc at) i (inl (omega arith)) ∙ stored-other b at e i (inl h)
 written-other (e ∷ es) b at i (inr h) = written-other es (stored b at (numbersOf e)) (suc at) i (inr (omega arith)) ∙ stored-other b at e i (inr (omega arith))
 
 -- each event in its place
-pub written-each : (d : Event) (es : List Event) (b : List ℕ) (at k : ℕ) → at + length es ≤ places b 48 → k < length es → Holds (written b at es) (at + k) (getD es k d)
+pub written-each : (d : Event) (es : List Event) (b : List ℕ) (at k : ℕ) → at + length es ≤ places b event-size → k < length es → Holds (written b at es) (at + k) (getD es k d)
 unfolding written Holds
 written-each d [] b at k h l = absurd (omega arith)
 written-each d (e ∷ es) b at zero h l =
     let q : at + zero ≡ at = omega arith in
-    rw q (λ j m. written-other es (stored b at (numbersOf e)) (suc at) (48 * at + j) (inl (omega arith)) ∙ stored-in b at e (omega arith) j m)
+    rw q (λ j m. written-other es (stored b at (numbersOf e)) (suc at) (event-size * at + j) (inl (omega arith)) ∙ stored-in b at e (omega arith) j m)
 written-each d (e ∷ es) b at (suc k) h l =
     let q : at + suc k ≡ suc at + k = omega arith in
     let n = length-stored b at (numbersOf e) in

@@ -7,30 +7,23 @@ use lib.Dec.{eqb, leb}
 use lib.ListN.{length, getD}
 use Rattle.places.specs.Words.{encode}
 use Rattle.places.specs.Places.{places}
-use Rattle.records.specs.Tokens.{readAt}
+use Rattle.records.specs.Tokens.{token-size, readAt}
 use Rattle.records.specs.declared.tokens.Token.{Token}
 use Rattle.records.specs.declared.tokens.Read.the-variants as read
-use Rattle.records.specs.Events.{numbersOf}
+use Rattle.records.specs.Events.{event-size, numbersOf}
 use Rattle.records.specs.declared.events.Event.{Event}
+use Rattle.tables.specs.States.{state-size}
+use Rattle.tables.specs.Anchors.{anchor-size}
+use Rattle.tables.specs.Handles.{handle-size}
 use Rattle.rules.specs.Rules.Words.{Given, STREAM-END}
 use Rattle.rules.specs.Run.{Rooms, Outcome, fresh, run}
 use Rattle.rules.specs.Lists.{in-bytes}
 use Rattle.rules.specs.Starred.{Pick, Case}
 use Rattle.run.specs.Run.{Left, runs, roomsOf}
-use Rattle.run.specs.declared.Settings.{Settings}
 use Rattle.promises.specs.Bytes.{as-bytes}
+use Rattle.promises.specs.Calls.{Call}
 
--- what a caller lends: any bytes
-pub record Call : Type 0 where
-  pub tokens : List ℕ
-  pub text : List ℕ
-  pub settings : Settings
-  pub events : List ℕ
-  pub states : List ℕ
-  pub anchors : List ℕ
-  pub handles : List ℕ
-
--- the answer, and the lent bytes afterwards
+-- the answer, and the lent bytes afterwards, by the definition of the run
 unfoldable pub after : Call → Left
 after c = runs (c .tokens) (c .text) (c .settings) (c .events) (c .states) (c .anchors) (c .handles)
 
@@ -49,24 +42,24 @@ pub record Zero (size : ℕ) (b : List ℕ) : Type 0 where
 
 -- what the rules of the steps are given, and their run with the places lent
 unfoldable pub given : Call → Given
-given c = in-bytes (c .tokens) (places (c .tokens) 32) (c .text) (c .settings .keep) (c .settings .forget)
+given c = in-bytes (c .tokens) (places (c .tokens) token-size) (c .text) (c .settings .keep) (c .settings .forget)
 
 unfoldable pub rooms : Call → Rooms
 rooms c = roomsOf (c .states) (c .anchors) (c .handles)
 
 unfoldable pub by-rules : Call → Outcome
-by-rules c = run (rooms c) (given c) (places (c .events) 48) fresh
+by-rules c = run (rooms c) (given c) (places (c .events) event-size) fresh
 
 -- place k of an event buffer holds an event
 unfoldable pub Holds : List ℕ → ℕ → Event → Type 0
-Holds b k e = (j : ℕ) → j < 48 → getD b (48 * k + j) 0 ≡ getD (encode (numbersOf e)) j 0
+Holds b k e = (j : ℕ) → j < event-size → getD b (event-size * k + j) 0 ≡ getD (encode (numbersOf e)) j 0
 
 -- a call with room for any list of n tokens
 pub record Roomy (c : Call) (n : ℕ) : Type 0 where
-  pub events : 3 * n ≤ places (c .events) 48
-  pub states : n ≤ places (c .states) 8
-  pub anchors : n ≤ places (c .anchors) 12
-  pub handles : n ≤ places (c .handles) 16
+  pub events : 3 * n ≤ places (c .events) event-size
+  pub states : n ≤ places (c .states) state-size
+  pub anchors : n ≤ places (c .anchors) anchor-size
+  pub handles : n ≤ places (c .handles) handle-size
 
 -- a call that lends a list of document 01, with room enough
 pub record Lends (c : Call) (k : Case) : Type 0 where
@@ -82,15 +75,15 @@ Shown b [] = Unit
 Shown b (p ∷ ps) = Holds b (p .index) (p .event) × Shown b ps
 
 -- what it says of the list
-pub record Said (c : Call) (k : Case) : Type 0 where
-  pub number : after c .answer .number ≡ k .number
-  pub count : after c .answer .count ≡ k .count
-  pub place : after c .answer .place ≡ k .place
-  pub events : Shown (after c .events) (k .picks)
+pub record Said (l : Left) (k : Case) : Type 0 where
+  pub number : l .answer .number ≡ k .number
+  pub count : l .answer .count ≡ k .count
+  pub place : l .answer .place ≡ k .place
+  pub events : Shown (l .events) (k .picks)
 
 -- what holds of each of a list
-abbrev pub Each : {A : Type 0} → (A → Type 0) → List A → Type 0
-Each P [] = Unit
+abbrev pub Each : {A : Type 0} → (A → Type 1) → List A → Type 1
+Each P [] = Unit {1}
 Each P (x ∷ xs) = P x × Each P xs
 
 -- the tokens that a run took
@@ -98,8 +91,8 @@ unfoldable pub taken : Call → ℕ
 taken c = by-rules c .last .at
 
 -- an accepted stream of A tokens, StreamEnd counted: the run took A of the tokens lent, and the last of them is the StreamEnd
-pub record Accepted (c : Call) (A : ℕ) : Type 0 where
-  pub number : after c .answer .number ≡ 0
+pub record Accepted (c : Call) (l : Left) (A : ℕ) : Type 0 where
+  pub number : l .answer .number ≡ 0
   pub took : taken c ≡ A
   pub some : 1 ≤ A
   pub last : Token
@@ -111,7 +104,7 @@ pub record Grown (c d : Call) : Type 0 where
   pub tokens : c .tokens ≡ d .tokens
   pub text : c .text ≡ d .text
   pub settings : c .settings ≡ d .settings
-  pub events : places (c .events) 48 ≤ places (d .events) 48
-  pub states : places (c .states) 8 ≤ places (d .states) 8
-  pub anchors : places (c .anchors) 12 ≤ places (d .anchors) 12
-  pub handles : places (c .handles) 16 ≤ places (d .handles) 16
+  pub events : places (c .events) event-size ≤ places (d .events) event-size
+  pub states : places (c .states) state-size ≤ places (d .states) state-size
+  pub anchors : places (c .anchors) anchor-size ≤ places (d .anchors) anchor-size
+  pub handles : places (c .handles) handle-size ≤ places (d .handles) handle-size
