@@ -1,8 +1,8 @@
 //! YAML events from a token list: the event machine of saphyr-parser 0.3.3, ported to Rattle and proved, behind a safe
 //! face. Any bytes may be given; every call ends with one answer.
 //!
-//! [`run`] lends the memory itself and gives events with their types; [`run_in`] works in memory that the caller lends
-//! and allocates nothing; [`rooms`] says in advance how much memory is always enough.
+//! [`run`] lends the memory itself and gives events with their types; [`run_in`] works in memory that the caller lends,
+//! and copies the text only where it overlaps the list; [`rooms`] says in advance how much memory is always enough.
 //!
 //! The crate links `libface.a`, which `rt staticlib face` writes in the top folder. It builds without it too; then every
 //! run panics and names that command, and [`LINKED`] is false. The library is for x86-64: where the machine is not,

@@ -37,7 +37,8 @@ impl Answer {
     }
 }
 
-/// Runs a list over lent memory and allocates nothing. Any bytes may be lent, of any length and with any contents.
+/// Runs a list over lent memory. Any bytes may be lent, of any length and with any contents. Nothing is allocated but a
+/// copy of the text, and that only where list and text overlap.
 ///
 /// Afterwards `count` event records stand at the start of `lent.events` and the bytes past them are as they were; the
 /// work memory is all zero.
