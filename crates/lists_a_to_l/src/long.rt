@@ -1,5 +1,6 @@
 // k: the longest list that runs, and one token more.
 use crate::show;
+use records::tokens::Token;
 use run::Settings;
 
 // Stores a token of this kind. Its positions are 0.
@@ -10,7 +11,7 @@ fn put(tokens: &mut [u8], at: usize, kind: u32) {
 
 fn fill(tokens: &mut [u8]) {
     let mut i = 0;
-    while i < tokens.len() / 32 {
+    while i < tokens.len() / Token::SIZE {
         put(tokens, i, 7);
         i += 1;
     }
@@ -21,7 +22,7 @@ fn fill(tokens: &mut [u8]) {
 fn make(tokens: &mut [u8]) {
     fill(tokens);
     put(tokens, 0, 1);
-    let n = tokens.len() / 32;
+    let n = tokens.len() / Token::SIZE;
     if n > 0 {
         put(tokens, n - 1, 2);
     }
