@@ -1,7 +1,7 @@
--- Demand 2: every event right. The answer and each event are those of the rules of the steps, and the starred lists of
--- document 01, as bytes, are answered as it says. Assumes nothing.
+-- Demand 2: every event right. The answer and each event are those of the rules of the steps; the starred lists of document 01,
+-- as bytes, are answered as it says, and a list for each number as by the Rust. Assumes nothing.
 use mathlib.Core.Path.{_≡_, refl, _∙_}
-use mathlib.Core.Bool.{Bool, true, false, _&&_}
+use mathlib.Core.Bool.{Bool, true, _&&_}
 use mathlib.Core.List.{List, [], _∷_}
 use Prim.Native.Nat.{ℕ, _+_, _≤_, _<_}
 use native.Mathlib.Omega.{arith}
@@ -10,7 +10,6 @@ use lib.Dec.{eqb, leb, ltb}
 use lib.ListN.{length, getD}
 use Rattle.places.specs.Places.{places}
 use Rattle.records.specs.Checks.{most-tokens, most-text}
-use Rattle.records.specs.Names.{noRange}
 use Rattle.records.specs.Tokens.{good, within}
 use Rattle.records.specs.declared.checks.Checked.the-variants as checked
 use Rattle.records.specs.declared.names.Range.{Range}
@@ -22,14 +21,16 @@ use Rattle.rules.specs.Rules.Words.{Given, plain}
 use Rattle.rules.specs.Run.{Outcome}
 use Rattle.rules.specs.Lists.{listed}
 use Rattle.rules.specs.Needs.{ample, enough}
-use Rattle.rules.specs.Starred.{Pick, Case, bare, named, tagged, ev, scalar, alias-over, same-range, same-tag, same-event, picked, as-said, check, check-all, starred}
+use Rattle.rules.specs.Starred.{Pick, Case, same-range, same-tag, same-event, picked, as-said, check, check-all, starred}
+use Rattle.rules.specs.Numbers.{every-number}
 use Rattle.rules.proofs.ListLaws.{plain-list}
 use Rattle.rules.proofs.Rooms.{fitting, needs-bounded}
-use Rattle.rules.proofs.Starred.{starred-right}
+use Rattle.rules.proofs.Starred.{computing, starred-right}
+use Rattle.rules.proofs.Numbers.{every-number-right}
 use Rattle.run.specs.Run.{Left, roomsOf}
 use Rattle.promises.specs.Bytes.{as-bytes, numbers, small, empty, tidy, sound, all-sound}
 use Rattle.promises.specs.Calls.{Call, Leaves}
-use Rattle.promises.specs.Demands.{Holds, given, rooms, by-rules, Roomy, Lends, Shown, Said, Each}
+use Rattle.promises.specs.Demands.{Holds, given, rooms, by-rules, Roomy, Lends, Shown, Answered, Each}
 use Rattle.promises.proofs.ByteLaws.{and-both, checks-pass, given-back, places-bytes}
 use Rattle.promises.proofs.WrittenLaws.{written-each}
 use Rattle.promises.proofs.Demand1.{Passes, ran, fits}
@@ -131,18 +132,18 @@ shown l o (p ∷ ps) r h k =
 unfoldable fine : Case → Bool
 fine k = all-sound (length (k .text)) (k .tokens) && (leb (length (k .tokens)) most-tokens && (leb (length (k .text)) most-text && below (k .count) (k .picks)))
 
-lent-list : (k : Case) (c : Call) → Lends c k → on-list c (k .tokens) ≡ listed (k .tokens) (k .text) false (k .forget)
+lent-list : (k : Case) (c : Call) → Lends c k → on-list c (k .tokens) ≡ listed (k .tokens) (k .text) (k .keep) (k .forget)
 unfolding on-list
 lent-list k c l = rw (l .text, l .keep, l .forget)
 
-said : (k : Case) → fine k ≡ true → check k ≡ true → (c : Call) (l : Left) → Leaves c l → Lends c k → Said l k
+said : (k : Case) → fine k ≡ true → check k ≡ true → Answered k
 unfolding fine check as-said
 said k f h c l called lends =
     let a = and-both (all-sound (length (k .text)) (k .tokens)) _ f in
     let b = and-both (leb (length (k .tokens)) most-tokens) _ (a .1) in
     let d = and-both (leb (length (k .text)) most-text) _ (b .1) in
     let w : Written c (k .tokens) = record { bytes = lends .tokens; sound = rw (lends .text) (a .0); few = leb-true (length (k .tokens)) most-tokens (b .0); short = rw (lends .text) (leb-true (length (k .text)) most-text (d .0)) } in
-    let o = ample (listed (k .tokens) (k .text) false (k .forget)) in
+    let o = ample (listed (k .tokens) (k .text) (k .keep) (k .forget)) in
     let r : Right l o = rw (lent-list k c lends) at (list-right called (k .tokens) w (lends .room)) in
     let n = and-both (eqb (o .number) (k .number)) _ h in
     let m = and-both (eqb (length (o .events)) (k .count)) _ (n .1) in
@@ -159,7 +160,7 @@ unfoldable all-fine : List Case → Bool
 all-fine [] = true
 all-fine (k ∷ ks) = fine k && all-fine ks
 
-each-said : (ks : List Case) → all-fine ks ≡ true → check-all ks ≡ true → Each (λ k. (c : Call) (l : Left) → Leaves c l → Lends c k → Said l k) ks
+each-said : (ks : List Case) → all-fine ks ≡ true → check-all ks ≡ true → Each Answered ks
 unfolding all-fine check-all
 each-said [] f h = tt
 each-said (k ∷ ks) f h =
@@ -167,10 +168,23 @@ each-said (k ∷ ks) f h =
     let y = and-both (check k) (check-all ks) h in
     (said k (x .0) (y .0), each-said ks (x .1) (y .1))
 
+-- to unfold this is to unfold the words of a table, and of what is fine
+unfoldable judging : Bool
+unfolding computing all-fine fine below all-sound sound good within numbers small tidy empty
+judging = true
+
 starred-fine : all-fine starred ≡ true
-unfolding all-fine fine below all-sound sound good within numbers small tidy empty bare named tagged ev scalar alias-over starred noRange
+unfolding judging
 starred-fine = refl
 
+every-number-fine : all-fine every-number ≡ true
+unfolding judging every-number
+every-number-fine = refl
+
 -- the starred lists of document 01 as bytes, with room enough
-pub starred-on-bytes : Each (λ k. (c : Call) (l : Left) → Leaves c l → Lends c k → Said l k) starred
+pub starred-on-bytes : Each Answered starred
 starred-on-bytes = each-said starred starred-fine starred-right
+
+-- and a list for each number 0 to 14, each setting, tag source and style
+pub every-number-on-bytes : Each Answered every-number
+every-number-on-bytes = each-said every-number every-number-fine every-number-right

@@ -1,6 +1,6 @@
 pub mod ByteLaws
 pub mod WrittenLaws
-pub mod Numbers
+pub mod Cases
 pub mod AtTheFace
 pub mod Demand1
 pub mod Demand2

@@ -1,7 +1,7 @@
 -- The words of the demands: a call of the run, what it leaves, and the numbers of document 01.
 use Prim.Native.Nat.{ℕ, _*_, _+_, _-_, _<_, _≤_}
 use mathlib.Core.Path.{_≡_}
-use mathlib.Core.Bool.{Bool, false, _&&_, _||_}
+use mathlib.Core.Bool.{Bool, _&&_, _||_}
 use mathlib.Core.List.{List, [], _∷_}
 use lib.Dec.{eqb, leb}
 use lib.ListN.{length, getD}
@@ -21,7 +21,7 @@ use Rattle.rules.specs.Lists.{in-bytes}
 use Rattle.rules.specs.Starred.{Pick, Case}
 use Rattle.run.specs.Run.{Left, runs, roomsOf}
 use Rattle.promises.specs.Bytes.{as-bytes}
-use Rattle.promises.specs.Calls.{Call}
+use Rattle.promises.specs.Calls.{Call, Leaves}
 
 -- the answer, and the lent bytes afterwards, by the definition of the run
 unfoldable pub after : Call → Left
@@ -61,15 +61,15 @@ pub record Roomy (c : Call) (n : ℕ) : Type 0 where
   pub anchors : n ≤ places (c .anchors) anchor-size
   pub handles : n ≤ places (c .handles) handle-size
 
--- a call that lends a list of document 01, with room enough
+-- a call that lends a list of a table, with its settings and room enough
 pub record Lends (c : Call) (k : Case) : Type 0 where
   pub tokens : c .tokens ≡ as-bytes (k .tokens)
   pub text : c .text ≡ k .text
-  pub keep : c .settings .keep ≡ false
+  pub keep : c .settings .keep ≡ k .keep
   pub forget : c .settings .forget ≡ k .forget
   pub room : Roomy c (length (k .tokens))
 
--- the events that document 01 shows stand in their places
+-- the events that the table shows stand in their places
 abbrev pub Shown : List ℕ → List Pick → Type 0
 Shown b [] = Unit
 Shown b (p ∷ ps) = Holds b (p .index) (p .event) × Shown b ps
@@ -80,6 +80,10 @@ pub record Said (l : Left) (k : Case) : Type 0 where
   pub count : l .answer .count ≡ k .count
   pub place : l .answer .place ≡ k .place
   pub events : Shown (l .events) (k .picks)
+
+-- each call that lends the list is answered so
+abbrev pub Answered : Case → Type 1
+Answered k = (c : Call) (l : Left) → Leaves c l → Lends c k → Said l k
 
 -- what holds of each of a list
 abbrev pub Each : {A : Type 0} → (A → Type 1) → List A → Type 1

@@ -1,6 +1,7 @@
 pub mod StateLaws
 pub mod Starred
 pub mod Orders
+pub mod Numbers
 pub mod ListLaws
 pub mod WordLaws
 pub mod Weights

@@ -5,5 +5,6 @@ pub mod Lists
 pub mod Needs
 pub mod Starred
 pub mod Orders
+pub mod Numbers
 pub mod Documents
 pub mod Walk

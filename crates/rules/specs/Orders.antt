@@ -22,11 +22,11 @@ unfoldable pub order : Rooms → ℕ → List Token → List ℕ → ℕ → ℕ
 order rooms events tokens text number count place = record {
   rooms = rooms;
   events = events;
-  said = record { tokens = tokens; text = text; forget = false; number = number; count = count; place = place; picks = [] };
+  said = record { tokens = tokens; text = text; keep = false; forget = false; number = number; count = count; place = place; picks = [] };
 }
 
 unfoldable pub in-order : Order → Case → Bool
-in-order o c = as-said c (run (o .rooms) (listed (c .tokens) (c .text) false (c .forget)) (o .events) fresh)
+in-order o c = as-said c (run (o .rooms) (listed (c .tokens) (c .text) (c .keep) (c .forget)) (o .events) fresh)
 
 unfoldable pub all-in-order : List Order → Bool
 all-in-order [] = true

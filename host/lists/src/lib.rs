@@ -13,6 +13,7 @@ mod long;
 mod mutated;
 pub mod named;
 pub mod notation;
+pub mod numbers;
 mod real;
 mod rng;
 mod rooms;

@@ -20,6 +20,8 @@ Cases for the run of document 01 and the answers they must have.
         writes the fixture, one file for each class
   lists letters
         lists a to l of document 01 with the Rust's answers, as the program lists_a_to_l writes its own
+  lists numbers
+        the table of crates/rules/specs/Numbers.antt: a list for each number 0 to 14 with the Rust's answer
   lists --help
 
 tests/README.md describes the files. Classes:
@@ -41,6 +43,7 @@ fn main() -> ExitCode {
         ["diff", left, right, cases] => commands::diff(left, right, cases),
         ["fixture", directory] => commands::fixture(directory),
         ["letters"] => files::print(&lists::letters()).map(|()| ExitCode::SUCCESS),
+        ["numbers"] => files::print(&lists::numbers::table()).map(|()| ExitCode::SUCCESS),
         [] => Err(files::usage("no command given")),
         _ => Err(files::usage(&format!("not understood: {}", words.join(" ")))),
     };
