@@ -111,3 +111,15 @@ pub fn fixture(directory: &str) -> io::Result<ExitCode> {
     }
     Ok(ExitCode::SUCCESS)
 }
+
+pub fn texts(options: &[&str]) -> io::Result<ExitCode> {
+    let count = match *options {
+        [] => 40_000,
+        ["--count", value] => number(value)?,
+        _ => return Err(usage(&format!("not understood: {}", options.join(" ")))),
+    };
+    let mut out = BufWriter::new(io::stdout().lock());
+    lists::texts(count, &mut out)?;
+    out.flush()?;
+    Ok(ExitCode::SUCCESS)
+}

@@ -19,6 +19,7 @@ mod rng;
 mod rooms;
 mod short;
 mod steered;
+mod texts;
 mod words;
 
 pub use class::{class, Cases, Class, CLASSES};
@@ -27,3 +28,4 @@ pub use letters::letters;
 pub use list::List;
 pub use real::FILES;
 pub use rng::Rng;
+pub use texts::texts;

@@ -22,6 +22,8 @@ Cases for the run of document 01 and the answers they must have.
         lists a to l of document 01 with the Rust's answers, as the program lists_a_to_l writes its own
   lists numbers
         the table of crates/rules/specs/Numbers.antt: a list for each number 0 to 14 with the Rust's answer
+  lists texts [--count N]
+        short lists as YAML text with the Rust's answers, and N longer ones (default 40000), for tests/texts.py
   lists --help
 
 tests/README.md describes the files. Classes:
@@ -44,6 +46,7 @@ fn main() -> ExitCode {
         ["fixture", directory] => commands::fixture(directory),
         ["letters"] => files::print(&lists::letters()).map(|()| ExitCode::SUCCESS),
         ["numbers"] => files::print(&lists::numbers::table()).map(|()| ExitCode::SUCCESS),
+        ["texts", ref options @ ..] => commands::texts(options),
         [] => Err(files::usage("no command given")),
         _ => Err(files::usage(&format!("not understood: {}", words.join(" ")))),
     };

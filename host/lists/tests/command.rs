@@ -98,6 +98,8 @@ fn mistakes_are_said() {
         (&["make", "--class", "nothing"], "no class nothing"),
         (&["make", "--class"], "not understood: --class"),
         (&["make", "--class", "named", "--seed", "x"], "not a number: x"),
+        (&["texts", "--count"], "not understood: --count"),
+        (&["texts", "--count", "x"], "not a number: x"),
         (&["diff", "a", "b"], "not understood"),
         (&["diff", "no-such-file", "b", "c"], "no-such-file"),
     ] {
