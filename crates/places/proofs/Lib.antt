@@ -1,4 +1,5 @@
 pub mod Steps
 pub mod WordLaws
 pub mod PlaceLaws
+pub mod UnusedLaws
 pub mod Unique

@@ -1,9 +1,9 @@
 -- Places: records of one size that stand one after another in lent bytes.
 use mathlib.Core.Path.{_≡_}
-use Prim.Native.Nat.{ℕ, _+_, _*_, _/_, min}
+use Prim.Native.Nat.{ℕ, _+_, _*_, _/_, _≤_, min}
 use mathlib.Core.Bool.{Bool, cond}
 use mathlib.Core.List.{List, _++_}
-use lib.ListN.{length, drop, replicate}
+use lib.ListN.{length, getD, drop, replicate}
 use lib.Seq.{sets}
 use lib.Dec.{ltb}
 use Rattle.places.specs.Words.{word, encode}
@@ -35,3 +35,7 @@ zeroed n b = replicate n 0 ++ drop n b
 -- the first n places are 0, all of them where there are fewer; other bytes stand
 unfoldable pub clearedPlaces : List ℕ → ℕ → ℕ → List ℕ
 clearedPlaces b size n = zeroed (size * min n (places b size)) b
+
+-- with n places in use the unused ones are zero: every byte from place n on is 0, those that make no whole place too
+pub record Unused (b : List ℕ) (size n : ℕ) : Type 0 where
+  pub zero : (i : ℕ) → size * n ≤ i → getD b i 0 ≡ 0

@@ -6,7 +6,9 @@ use Prim.Native.Nat.{ℕ, zero, suc, _+_, _-_, _/_, _≤_, _<_}
 use native.Mathlib.Omega.{arith}
 use borrow.Author.Tests.{lt-ltb, ltb-true, ltb-false, eq-eqb, ne-eqb}
 use lib.ListN.{length}
+use Rattle.places.specs.Words.{encode, le}
 use Rattle.places.specs.Places.{Put, hasPlace, places, stored}
+use Rattle.places.proofs.UnusedLaws.{unused-put, unused-last}
 use Rattle.records.specs.Tokens.{token-size, readAt}
 use Rattle.records.specs.declared.tokens.Token.{Token}
 use Rattle.records.specs.declared.tokens.Refusal.{Refusal}
@@ -21,10 +23,10 @@ use Rattle.tables.specs.declared.states.OpenState.{OpenState}
 use Rattle.tables.specs.declared.states.Popped.the-variants as popped
 use Rattle.tables.specs.declared.anchors.Anchor.{Anchor}
 use Rattle.tables.specs.declared.handles.Handle.{Handle}
-use Rattle.tables.specs.declared.lookup.Found.{Found}
 use Rattle.tables.specs.declared.lookup.Found.the-variants as found
 use Rattle.tables.specs.declared.lookup.Entered.the-variants as entered
 use Rattle.tables.proofs.TableLaws as t
+use Rattle.tables.proofs.LookupLaws.{Seat, own, next, seat, unused-entered}
 use Rattle.tables.proofs.StateLaws as st
 use Rattle.tables.proofs.AnchorLaws as al
 use Rattle.tables.proofs.HandleLaws as hl
@@ -38,7 +40,7 @@ use Rattle.rules.specs.declared.State.{State}
 use Rattle.rules.proofs.StateLaws.{back-numbers}
 use Rattle.rules.proofs.Granted.{declare-more}
 use Rattle.run.specs.Apply as apply
-use Rattle.run.specs.Apply.{opensOf, stands, stood, Pushed, Popping, NamePut, Entering, Declaring}
+use Rattle.run.specs.Apply.{opensOf, stands, stood, depthOf, Pushed, Popping, NamePut, Entering, Declaring}
 use Rattle.run.specs.declared.apply.Opened.the-variants as opened
 
 has-place : (b : List ℕ) (size at : ℕ) → at < places b size → hasPlace b size at ≡ true
@@ -53,6 +55,18 @@ pub is-place : (b : List ℕ) (size at : ℕ) → hasPlace b size at ≡ true �
 unfolding hasPlace
 is-place b size at e = ltb-true at (length b / size) e
 
+pub length-opens : (b : List ℕ) (n : ℕ) → length (opensOf b n) ≡ n
+unfolding opensOf
+length-opens b n = t.length-stack (λ i. back (stateAt b i)) (λ i. back (stateAt b i)) n
+
+pub length-anchors : (b : List ℕ) (n : ℕ) → length (a.anchorsOf b n) ≡ n
+unfolding a.anchorsOf
+length-anchors b n = t.length-table (a.anchorAt b) (a.anchorAt b) 0 n
+
+pub length-handles : (b : List ℕ) (n : ℕ) → length (h.handlesOf b n) ≡ n
+unfolding h.handlesOf
+length-handles b n = t.length-table (h.handleAt b) (h.handleAt b) 0 n
+
 clash : true ≡ false → ⊥
 clash e = let z : _≡_ {A = ℕ} 0 1 = cc in omega arith
 
@@ -60,7 +74,10 @@ clash e = let z : _≡_ {A = ℕ} 0 1 = cc in omega arith
 module _ (b : List ℕ) (n : ℕ) (p : State) (s : OpenState) (e : s ≡ numbers p) (r : Bool) (after : List ℕ) (put : Put b n (numbersOf s) r after) where
   pub pushed : r ≡ true → Pushed b n p (n + 1) after
   unfolding opensOf numbersOf
-  pushed q = record { stack = λ l. t.stack-push (λ i. back (stateAt b i)) (λ i. back (stateAt after i)) n p same other } where
+  pushed q = record {
+    stack = λ l. t.stack-push (λ i. back (stateAt b i)) (λ i. back (stateAt after i)) n p same other;
+    unused = unused-put put (omega arith) (λ _. omega arith);
+  } where
     same : back (stateAt after n) ≡ p
     same = rw (put .bytes, st.state-same b n s (sym (put .room) ∙ q), e, back-numbers p)
 
@@ -69,7 +86,10 @@ module _ (b : List ℕ) (n : ℕ) (p : State) (s : OpenState) (e : s ≡ numbers
 
   pub not-pushed : r ≡ false → Pushed b n p n after
   unfolding numbersOf
-  not-pushed q = record { stack = λ l. absurd (omega (arith, no-place b 8 n (sym (put .room) ∙ q))) }
+  not-pushed q = record {
+    stack = λ l. absurd (omega (arith, no-place b 8 n (sym (put .room) ∙ q)));
+    unused = unused-put put (omega arith) (λ e. absurd (clash (sym e ∙ q)));
+  }
 
 -- a pop
 module _ (b : List ℕ) where
@@ -98,32 +118,23 @@ module _ (b : List ℕ) where
   some-open n p after h = top-some n p (h .state) .0
 
   pub pops : (n : ℕ) (p : OpenState) (after : List ℕ) → Pop b n (popped.State p) after → Popping b n (stands (back p) (n - 1)) after
-  unfolding stands stood opensOf stack apply.popped
+  unfolding stands stood opensOf stack apply.popped depthOf lowered encode le
   pops zero p after h = let l = some-open zero p after h in absurd (omega arith)
   pops (suc n) p after h =
       let k : suc n - 1 ≡ n = omega arith in
-      record { stack = λ l. rw (h .bytes, top-some (suc n) p (h .state) .1, k, opens-lowered n) }
+      record {
+        stack = λ l. rw (h .bytes, top-some (suc n) p (h .state) .1, k, opens-lowered n);
+        unused = λ l u. rw (h .bytes, k) (unused-last (0 ∷ 0 ∷ []) (has-place b 8 n l) refl u);
+      }
 
   pub pops-none : (n : ℕ) (after : List ℕ) → Pop b n popped.Nothing after → Popping b n opened.Nothing after
-  unfolding stood opensOf stack apply.popped
-  pops-none zero after h = record { stack = λ l. refl }
-  pops-none (suc n) after h = record { stack = λ l. let k = top-none n (h .state) in absurd (omega arith) }
-
--- the place that a name is entered in, among n: its own, or the next
-data Seat (n : ℕ) (f : Found) : Type 0 where
-  own : placeFor f n < n → usedAfter f n ≡ n → Seat n f
-  next : placeFor f n ≡ n → usedAfter f n ≡ n + 1 → Seat n f
+  unfolding stood opensOf stack apply.popped depthOf lowered
+  pops-none zero after h = record { stack = λ l. refl; unused = λ l u. rw (h .bytes) u }
+  pops-none (suc n) after h =
+      let k = top-none n (h .state) in record { stack = λ l. absurd (omega arith); unused = λ l. absurd (omega arith) }
 
 module _ {A : Type 0} (p : A → Bool) (x : A) where
-  seat-from : (at n : ℕ) (xs : List A) → n ≡ at + length xs → Seat n (leftmost p at xs)
-  unfolding leftmost placeFor usedAfter
-  seat-from at n [] e = next refl refl
-  seat-from at n (y ∷ ys) e = go (p y) (seat-from (suc at) n ys (omega arith)) where
-    go : (r : Bool) → Seat n (leftmost p (suc at) ys) → Seat n (cond r (found.At at) (leftmost p (suc at) ys))
-    go true ih = own (omega arith) refl
-    go false ih = ih
-
-  -- it is one of the places that are in use afterwards
+  -- the place that a name is entered in is one of those in use afterwards
   seat-below : (at n : ℕ) (xs : List A) → n ≡ at + length xs → placeFor (leftmost p at xs) n < at + length (entered p x xs)
   unfolding leftmost placeFor entered
   seat-below at n [] e = omega arith
@@ -135,25 +146,22 @@ module _ {A : Type 0} (p : A → Bool) (x : A) where
 
 -- an anchor put where the search says
 module _ (b : List ℕ) (n i : ℕ) (x : Anchor) (r : Bool) (after : List ℕ) (put : Put b i (a.numbersOf x) r after) where
-  length-anchors : length (a.anchorsOf b n) ≡ n
-  unfolding a.anchorsOf
-  length-anchors = t.length-table (a.anchorAt b) (a.anchorAt b) 0 n
-
   module _ (text : List ℕ) (e : i ≡ placeFor (find text b anchor-size n (x .name)) n)
       (room : length (entered (a.named text (x .name)) x (a.anchorsOf b n)) ≤ places b anchor-size) where
     there : hasPlace b anchor-size i ≡ true
     there = has-place b 12 i
-        (omega (arith, seat-below (a.named text (x .name)) x 0 n (a.anchorsOf b n) (omega (arith, length-anchors)), rw (al.looked text b n (x .name)) at e))
-
-    seat : Seat n (find text b anchor-size n (x .name))
-    seat = rw (al.looked text b n (x .name)) (seat-from (a.named text (x .name)) x 0 n (a.anchorsOf b n) (omega (arith, length-anchors)))
+        (omega (arith, seat-below (a.named text (x .name)) x 0 n (a.anchorsOf b n) (omega (arith, length-anchors b n)), rw (al.looked text b n (x .name)) at e))
 
     named-by : (k : ℕ) → k ≡ usedAfter (find text b anchor-size n (x .name)) n → a.anchorsOf after k ≡ entered (a.named text (x .name)) x (a.anchorsOf b n)
     unfolding a.numbersOf
     named-by k q = al.enter b x text n k after (record { used = rw (← e, there, q); bytes = rw (← e) (put .bytes) })
 
   pub named-next : i ≡ n → NamePut b n i x (n + 1) after
-  named-next q = record { table = λ text e room. go text e room (seat text e room) } where
+  unfolding a.numbersOf
+  named-next q = record {
+    table = λ text e room. go text e room (seat text b 12 (x .name) n);
+    unused = λ l. unused-put put (omega arith) (λ _. omega arith);
+  } where
     go : (text : List ℕ) (e : i ≡ placeFor (find text b anchor-size n (x .name)) n)
         (room : length (entered (a.named text (x .name)) x (a.anchorsOf b n)) ≤ places b anchor-size) → Seat n (find text b anchor-size n (x .name))
         → a.anchorsOf after (n + 1) ≡ entered (a.named text (x .name)) x (a.anchorsOf b n)
@@ -161,7 +169,11 @@ module _ (b : List ℕ) (n i : ℕ) (x : Anchor) (r : Bool) (after : List ℕ) (
     go text e room (next l u) = named-by text e room (n + 1) (sym u)
 
   pub named-own : (i ≡ n → ⊥) → NamePut b n i x n after
-  named-own q = record { table = λ text e room. go text e room (seat text e room) } where
+  unfolding a.numbersOf
+  named-own q = record {
+    table = λ text e room. go text e room (seat text b 12 (x .name) n);
+    unused = λ l. unused-put put (omega arith) (λ _. omega (arith, q));
+  } where
     go : (text : List ℕ) (e : i ≡ placeFor (find text b anchor-size n (x .name)) n)
         (room : length (entered (a.named text (x .name)) x (a.anchorsOf b n)) ≤ places b anchor-size) → Seat n (find text b anchor-size n (x .name))
         → a.anchorsOf after n ≡ entered (a.named text (x .name)) x (a.anchorsOf b n)
@@ -170,16 +182,16 @@ module _ (b : List ℕ) (n i : ℕ) (x : Anchor) (r : Bool) (after : List ℕ) (
 
   pub not-named : r ≡ false → NamePut b n i x n after
   unfolding a.numbersOf
-  not-named q = record { table = λ text e room. absurd (clash (sym (there text e room) ∙ sym (put .room) ∙ q)) }
+  not-named q = record {
+    table = λ text e room. absurd (clash (sym (there text e room) ∙ sym (put .room) ∙ q));
+    unused = λ l. unused-put put (omega arith) (λ e. absurd (clash (sym e ∙ q)));
+  }
 
 -- a handle entered
 module _ (text b : List ℕ) (n : ℕ) (x : Handle) (after : List ℕ) where
   pub entered-used : (m : ℕ) → Enter text b n (x .name) (h.numbersOf x) (entered.Used m) after → Entering text b n x m after
-  entered-used m q = record { table = λ room. hl.enter b x text n m after q }
-
-  length-handles : length (h.handlesOf b n) ≡ n
-  unfolding h.handlesOf
-  length-handles = t.length-table (h.handleAt b) (h.handleAt b) 0 n
+  unfolding h.numbersOf
+  entered-used m q = record { table = λ room. hl.enter b x text n m after q; unused = unused-entered q }
 
   full : (r : Bool) (k : ℕ) → entered.Full ≡ cond r (entered.Used k) entered.Full → r ≡ false
   full true k e = let z : _≡_ {A = ℕ} 0 1 = cc in absurd (omega arith)
@@ -191,8 +203,9 @@ module _ (text b : List ℕ) (n : ℕ) (x : Handle) (after : List ℕ) where
     table = λ room.
         let f = find text b handle-size n (x .name) in
         let none = no-place b 16 (placeFor f n) (full (hasPlace b handle-size (placeFor f n)) (usedAfter f n) (q .used)) in
-        let here = seat-below (h.named text (x .name)) x 0 n (h.handlesOf b n) (omega (arith, length-handles)) in
+        let here = seat-below (h.named text (x .name)) x 0 n (h.handlesOf b n) (omega (arith, length-handles b n)) in
         absurd (omega (arith, rw (hl.looked text b n (x .name)) at none, here));
+    unused = unused-entered q;
   }
 
 -- the handle of one token
@@ -206,6 +219,7 @@ module _ (tokens text b : List ℕ) (n at : ℕ) where
   declared-refused e q = record {
     table = λ keep forget room.
         rw (declared-one (in-bytes tokens (places tokens token-size) text keep forget) (h.handlesOf b n), q);
+    unused = λ u. u;
   }
 
   pub declared-other : (x : Token) → readAt tokens (length text) at ≡ read.Token x → (x .kind ≡ 4 → ⊥) → Declaring tokens text b n at 1 n b
@@ -213,6 +227,7 @@ module _ (tokens text b : List ℕ) (n at : ℕ) where
   declared-other x q d = record {
     table = λ keep forget room.
         rw (declared-one (in-bytes tokens (places tokens token-size) text keep forget) (h.handlesOf b n), q, ne-eqb (x .kind) 4 d);
+    unused = λ u. u;
   }
 
   pub declared-tag : (x : Token) (r : ℕ) (after : List ℕ) → readAt tokens (length text) at ≡ read.Token x → x .kind ≡ 4
@@ -221,13 +236,14 @@ module _ (tokens text b : List ℕ) (n at : ℕ) where
   declared-tag x r after q d k = record {
     table = λ keep forget.
         rw (declared-one (in-bytes tokens (places tokens token-size) text keep forget) (h.handlesOf b n), q, eq-eqb (x .kind) 4 d) (k .table);
+    unused = k .unused;
   }
 
 -- one token more
 module _ (tokens text b : List ℕ) (n from : ℕ) where
   pub declared-start : Declaring tokens text b n from 0 n b
   unfolding declare
-  declared-start = record { table = λ keep forget room. refl }
+  declared-start = record { table = λ keep forget room. refl; unused = λ u. u }
 
   entered-grows : {A : Type 0} (p : A → Bool) (x : A) (xs : List A) → length xs ≤ length (entered p x xs)
   unfolding entered
@@ -251,7 +267,10 @@ module _ (tokens text b : List ℕ) (n from : ℕ) where
   pub declared-more : (k used at : ℕ) (mid : List ℕ) (r : ℕ) (after : List ℕ) → at ≡ from + k → length mid ≡ length b
       → Declaring tokens text b n from k used mid → Declaring tokens text mid used at 1 r after
       → Declaring tokens text b n from (suc k) r after
-  declared-more k used at mid r after e l d o = record { table = λ keep forget room. go (in-bytes tokens (places tokens token-size) text keep forget) (d .table keep forget) (o .table keep forget) room } where
+  declared-more k used at mid r after e l d o = record {
+    table = λ keep forget room. go (in-bytes tokens (places tokens token-size) text keep forget) (d .table keep forget) (o .table keep forget) room;
+    unused = λ u. o .unused (d .unused u);
+  } where
     go : (g : Given)
         → (length (declare g k from (h.handlesOf b n)) ≤ places b handle-size → h.handlesOf mid used ≡ declare g k from (h.handlesOf b n))
         → (length (declare g 1 at (h.handlesOf mid used)) ≤ places mid handle-size → h.handlesOf after r ≡ declare g 1 at (h.handlesOf mid used))

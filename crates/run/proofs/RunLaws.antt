@@ -5,6 +5,7 @@ use Prim.Native.Nat.{ℕ}
 use lib.ListN.{length}
 use lib.Seq.{drop-length}
 use Rattle.places.specs.Places.{places, zeroed}
+use Rattle.places.proofs.UnusedLaws.{unused-all}
 use Rattle.records.specs.Checks.{firstChecks}
 use Rattle.records.specs.declared.checks.Checked.the-variants as checked
 use Rattle.records.specs.declared.tokens.Refusal.{Refusal}
@@ -12,10 +13,12 @@ use Rattle.records.proofs.CheckLaws as checks
 use Rattle.records.specs.Tokens.{token-size}
 use Rattle.records.specs.Events.{event-size}
 use Rattle.rules.specs.Run.{fresh}
+use Rattle.parser.specs.Machine as machine
 use Rattle.parser.specs.Machine.{rooms}
+use Rattle.parser.specs.declared.Machine.{Machine}
 use Rattle.parser.specs.declared.Terms.{Terms}
 use Rattle.run.specs.Run.{told, cleared, roomsOf, checkedRun, runs, left}
-use Rattle.run.specs.Turns.{answered, tell, termsOf, Cleared, givenOf, Ready, rest}
+use Rattle.run.specs.Turns.{answered, tell, termsOf, Cleared, givenOf, Tidy, Ready, rest}
 use Rattle.run.specs.declared.Answer.{Answer}
 use Rattle.run.specs.declared.Settings.{Settings}
 
@@ -25,9 +28,9 @@ module _ (tokens text : List ℕ) (settings : Settings) (events states anchors h
     passed-all : firstChecks tokens (length text) ≡ checked.Passed (places tokens token-size)
     passed-all = e ∙ ap checked.Passed (checks.passed tokens (length text) n e .count)
 
-    pub ready : Ready tokens text t states anchors handles
+    pub ready : Tidy states anchors handles machine.fresh → Ready tokens text t states anchors handles
     unfolding termsOf
-    ready = record { passed = passed-all; opens = rw i; names = rw i; tags = rw i }
+    ready u = record { passed = passed-all; opens = rw i; names = rw i; tags = rw i; unused = u }
 
     pub told-passed : checkedRun (firstChecks tokens (length text)) tokens text settings (roomsOf states anchors handles) events
         ≡ told events (rest tokens text t (places events event-size) fresh)
@@ -38,6 +41,15 @@ module _ (tokens text : List ℕ) (settings : Settings) (events states anchors h
       → tell (answered (e .number) 0 (e .place)) events ≡ checkedRun (firstChecks tokens (length text)) tokens text settings (roomsOf states anchors handles) events
   unfolding checkedRun tell answered
   told-refused e q = rw q
+
+-- cleared work memory is zero, whatever is in use
+pub tidy-cleared : {s a h s′ a′ h′ : List ℕ} (m : Machine) → Cleared s a h s′ a′ h′ → Tidy s′ a′ h′ m
+unfolding cleared
+tidy-cleared {s} {a} {h} m c = rw (c .states, c .anchors, c .handles) (record {
+  states = unused-all s 8 (m .depth);
+  anchors = unused-all a 12 (m .names);
+  handles = unused-all h 16 (m .handles);
+})
 
 -- zeroing does not ask what stood there
 pub zeroed-whole : (b c : List ℕ) → length b ≡ length c → zeroed (length b) b ≡ zeroed (length c) c

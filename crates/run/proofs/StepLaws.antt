@@ -1,23 +1,23 @@
 -- A step that the code decided and applied is the step of the rules, on what the bytes say. Assumes nothing.
+use Prim.{Unit, tt}
 use mathlib.Core.Path.{_≡_, refl, sym, subst, _∙_}
 use mathlib.Core.List.{List, [], _∷_}
 use Prim.Native.Nat.{ℕ, _≤_}
 use native.Mathlib.Omega.{arith}
 use lib.ListN.{length}
-use Rattle.places.specs.Places.{places}
+use Rattle.places.specs.Places.{places, Unused}
 use Rattle.records.specs.declared.events.Event.{Event}
 use Rattle.records.specs.declared.tokens.Refusal.{Refusal}
 use Rattle.tables.specs.Anchors.{anchor-size, anchorsOf}
 use Rattle.tables.specs.Handles.{handle-size, handlesOf}
-use Rattle.tables.specs.States.{state-size, stateAt}
-use Rattle.tables.proofs.TableLaws as t
+use Rattle.tables.proofs.LookupLaws.{seated}
+use Rattle.tables.specs.States.{state-size}
 use Rattle.rules.specs.Rules.{state-machine}
 use Rattle.rules.specs.Rules.Words as r
 use Rattle.rules.specs.Rules.Words.{Given, Decision, Change, Move}
 use Rattle.rules.specs.Run as run
 use Rattle.rules.specs.Run.{Model, Step, Go, Halt, Stuck, limit, settle, step, moved, after}
 use Rattle.rules.specs.Lists.{in-bytes}
-use Rattle.rules.specs.States.{back}
 use Rattle.rules.specs.declared.State.{State}
 use Rattle.rules.proofs.Granted.{Fits, Granted, granted, opened}
 use Rattle.parser.specs.Machine.{Lent, lent, given, small, rooms}
@@ -27,16 +27,13 @@ use Rattle.parser.specs.declared.Terms.{Terms}
 use Rattle.parser.specs.declared.Stepped.{Stepped}
 use Rattle.parser.specs.declared.Step.the-variants as st
 use Rattle.run.specs.Apply as apply
-use Rattle.run.specs.Apply.{opensOf, Stood, Over, Empty, stood, popped, opening, deep, Naming, NamePut, Handling, advanced, Applying}
-use Rattle.run.specs.Turns.{modelOf, givenOf}
+use Rattle.run.specs.Apply.{opensOf, Stood, Over, Empty, stood, depthOf, popped, opening, deep, Naming, NamePut, Handling, advanced, Applying}
+use Rattle.run.specs.Turns.{modelOf, givenOf, Tidy}
 use Rattle.run.specs.declared.apply.Opened.{Opened}
 use Rattle.run.specs.declared.apply.Opened.the-variants as opened
 use Rattle.run.specs.declared.apply.Applied.{Applied}
 use Rattle.run.specs.declared.apply.Applied.the-variants as applied
-
-pub length-opens : (b : List ℕ) (n : ℕ) → length (opensOf b n) ≡ n
-unfolding opensOf
-length-opens b n = t.length-stack (λ i. back (stateAt b i)) (λ i. back (stateAt b i)) n
+use Rattle.run.proofs.ApplyLaws.{length-opens, length-anchors, length-handles}
 
 -- what the code answers of a decision, and the rules
 data Chosen (x : Lent) (m : Machine) (d : Decision) (s : Stepped) : Type 0 where
@@ -65,6 +62,11 @@ module _ (x : Lent) (m : Machine) where
   sticks g w (r.Refused n p) q = let z : _≡_ {A = ℕ} 0 1 = cc in absurd (omega arith)
   sticks g w r.Unreachable q = refl
   sticks g w (r.Wants p n d) q = refl
+
+-- what was applied leaves the places that are not in use zero
+unfoldable pub tidied : Applied → List ℕ → List ℕ → List ℕ → Type 0
+tidied (applied.Next m) states anchors handles = Tidy states anchors handles m
+tidied applied.Stuck states anchors handles = Unit {0}
 
 -- what was applied, as a step of the rules
 unfoldable pub stepped : Applied → Event → List ℕ → List ℕ → List ℕ → Step
@@ -104,16 +106,30 @@ module _ (tokens text : List ℕ) (terms : Terms) (states anchors handles : List
     names-after : (names : r.Names) (n : ℕ) → length (run.named g w names) ≤ places anchors anchor-size
         → Naming anchors (m .names) (namesAfter x m names) n anchors′ → anchorsOf anchors′ n ≡ run.named g w names
     unfolding Naming namesAfter run.named lent givenOf in-bytes modelOf
-    names-after r.NamesKept n l h = h
+    names-after r.NamesKept n l h = h .0
     names-after (r.NamePut name) n l h = h .table text refl l
     names-after r.NamesForgotten n l h = h .1
 
     tags-after : (tags : r.Tags) (n : ℕ) → length (run.handled g w tags) ≤ places handles handle-size
         → Handling tokens text handles (m .handles) (handlesAfter tags) n handles′ → handlesOf handles′ n ≡ run.handled g w tags
     unfolding Handling handlesAfter run.handled givenOf modelOf
-    tags-after r.TagsKept n l h = h
+    tags-after r.TagsKept n l h = h .0
     tags-after (r.TagsDeclared i j) n l h = h .table (terms .keep) (terms .forget) l
     tags-after r.TagsForgotten n l h = h .1
+
+    names-unused : (names : r.Names) (n : ℕ) → m .names ≤ places anchors anchor-size
+        → Naming anchors (m .names) (namesAfter x m names) n anchors′ → Unused anchors anchor-size (m .names) → Unused anchors′ anchor-size n
+    unfolding Naming namesAfter lent
+    names-unused r.NamesKept n l h = h .1
+    names-unused (r.NamePut name) n l h = h .unused (seated text anchors 12 name (m .names))
+    names-unused r.NamesForgotten n l h = h .2 l
+
+    tags-unused : (tags : r.Tags) (n : ℕ) → m .handles ≤ places handles handle-size
+        → Handling tokens text handles (m .handles) (handlesAfter tags) n handles′ → Unused handles handle-size (m .handles) → Unused handles′ handle-size n
+    unfolding Handling handlesAfter
+    tags-unused r.TagsKept n l h = h .1
+    tags-unused (r.TagsDeclared i j) n l h = h .unused
+    tags-unused r.TagsForgotten n l h = h .2 l
 
     next-after : (names : r.Names) → apply.numbered (m .next) (namesAfter x m names) ≡ run.numbered (w .next) names
     unfolding apply.numbered run.numbered namesAfter modelOf
@@ -145,6 +161,12 @@ module _ (tokens text : List ℕ) (terms : Terms) (states anchors handles : List
     stepped-stood (opened.At s) names used p q = rw (p, q, next-after (c .names))
     stepped-stood opened.Nothing names used p q = refl
 
+    tidied-stood : (z : Machine) (o : Opened) (names used next : ℕ) → Unused states′ state-size (depthOf o) → Unused anchors′ anchor-size names → Unused handles′ handle-size used
+        → tidied (advanced z o names used next) states′ anchors′ handles′
+    unfolding tidied advanced depthOf
+    tidied-stood z (opened.At s) names used next us ua uh = record { states = us; anchors = ua; handles = uh }
+    tidied-stood z opened.Nothing names used next us ua uh = tt
+
   -- a step that was taken
   module _ (f : Fits (rooms terms) w) (s : Stepped) (q : decided x m (λ g m. state-machine g m (m .state)) ≡ st.Next s) where
     pub taken-next : s .machine .next ≡ m .next
@@ -154,17 +176,20 @@ module _ (tokens text : List ℕ) (terms : Terms) (states anchors handles : List
       go (chosen c i e) = rw e
 
     pub step-taken : (o : Applied) (states′ anchors′ handles′ : List ℕ) → terms .states ≡ places states state-size → terms .names ≡ places anchors anchor-size → terms .handles ≡ places handles handle-size
-        → Applying tokens text states anchors handles s o states′ anchors′ handles′
-        → step (rooms terms) g w ≡ stepped o (s .event) states′ anchors′ handles′
+        → Tidy states anchors handles m → Applying tokens text states anchors handles s o states′ anchors′ handles′
+        → (step (rooms terms) g w ≡ stepped o (s .event) states′ anchors′ handles′) × tidied o states′ anchors′ handles′
     unfolding step settle rooms goes modelOf
-    step-taken o states′ anchors′ handles′ rs ra rh a = go (choice x m d s (sym decided-by ∙ q)) where
-      go : Chosen x m d s → step (rooms terms) g w ≡ stepped o (s .event) states′ anchors′ handles′
+    step-taken o states′ anchors′ handles′ rs ra rh u a = go (choice x m d s (sym decided-by ∙ q)) where
+      go : Chosen x m d s → (step (rooms terms) g w ≡ stepped o (s .event) states′ anchors′ handles′) × tidied o states′ anchors′ handles′
       go (chosen c i e) =
           let k = granted (rooms terms) g w f c i in
           let a′ = subst (λ s. Applying tokens text states anchors handles s o states′ anchors′ handles′) e a in
           let n = names-after c k states′ anchors′ handles′ (c .names) (a′ .names) (rw (← ra) (k .anchors)) (a′ .naming) in
           let h = tags-after c k states′ anchors′ handles′ (c .tags) (a′ .used) (rw (← rh) (k .handles)) (a′ .handling) in
-          let l = a′ .opening .stack (rw (deep-opened c k states′ anchors′ handles′ (c .move) (m .depth), ← rs) (rw length-opens at (k .deep))) in
+          let room : deep (openAfter (c .move)) (m .depth) ≤ places states state-size = rw (deep-opened c k states′ anchors′ handles′ (c .move) (m .depth), ← rs) (rw length-opens at (k .deep)) in
+          let l = a′ .opening .stack room in
           let y = stepped-stood c k states′ anchors′ handles′ (a′ .opened) (a′ .names) (a′ .used) n h in
           let z = moved-stood c k states′ anchors′ handles′ (c .move) (opensOf states (m .depth)) in
-          rw (i, e, a′ .result) (z ∙ sym (y ∙ rw l))
+          let un = names-unused c k states′ anchors′ handles′ (c .names) (a′ .names) (omega (arith, f .anchors, length-anchors anchors (m .names))) (a′ .naming) (u .anchors) in
+          let uh = tags-unused c k states′ anchors′ handles′ (c .tags) (a′ .used) (omega (arith, f .handles, length-handles handles (m .handles))) (a′ .handling) (u .handles) in
+          (rw (i, e, a′ .result) (z ∙ sym (y ∙ rw l)), rw (a′ .result) (tidied-stood c k states′ anchors′ handles′ _ (a′ .opened) (a′ .names) (a′ .used) _ (a′ .opening .unused room (u .states)) un uh))

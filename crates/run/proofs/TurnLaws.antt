@@ -9,6 +9,7 @@ use native.Mathlib.Omega.{arith}
 use lib.ListN.{length}
 use Rattle.places.specs.Places.{places, hasPlace, stored}
 use Rattle.records.specs.Events.{event-size, numbersOf}
+use Rattle.records.specs.Says.{Number}
 use Rattle.records.specs.declared.events.Event.{Event}
 use Rattle.records.specs.declared.tokens.Refusal.{Refusal}
 use Rattle.records.proofs.CheckLaws as checks
@@ -36,13 +37,13 @@ use Rattle.records.specs.Events.{written}
 use Rattle.records.specs.Tokens.{token-size}
 use Rattle.run.specs.Run.{Told, told}
 use Rattle.run.specs.Turns as turns
-use Rattle.run.specs.Turns.{stopped, answered, tell, modelOf, givenOf, Ready, Here, rest, takenTurn, takenBytes, Taking, On, Ended, Stopped, Turned}
+use Rattle.run.specs.Turns.{stopped, wentSays, answered, tell, modelOf, givenOf, Tidy, Ready, Here, rest, takenTurn, takenBytes, Taking, On, Ended, Stopped, Turned}
 use Rattle.run.specs.declared.Went.{Went}
 use Rattle.run.specs.declared.Went.the-variants as went
 use Rattle.run.specs.declared.apply.Applied.{Applied}
 use Rattle.run.specs.declared.apply.Applied.the-variants as applied
 use Rattle.run.proofs.ApplyLaws.{is-place, no-place}
-use Rattle.run.proofs.StepLaws.{stepped, step-halts, step-sticks, step-taken, taken-next}
+use Rattle.run.proofs.StepLaws.{tidied, stepped, step-halts, step-sticks, step-taken, taken-next}
 
 -- a run by its first step
 module _ (r : Rooms) (g : Given) (m : Model) where
@@ -112,33 +113,34 @@ module _ (tokens text : List ℕ) (terms : Terms) (count : ℕ) (states anchors 
     -- a step that was taken
     module _ (events′ states′ anchors′ handles′ : List ℕ) (e : Event) (ls : length states′ ≡ length states) (la : length anchors′ ≡ length anchors) (lh : length handles′ ≡ length handles) where
       here-on : (m′ : Machine) → step (rooms terms) (givenOf tokens text terms) (modelOf states anchors handles m) ≡ Go e (modelOf states′ anchors′ handles′ m′)
-          → ended (m′ .state) ≡ false → Here tokens text terms (suc count) states′ anchors′ handles′ m′
+          → ended (m′ .state) ≡ false → Tidy states′ anchors′ handles′ m′ → Here tokens text terms (suc count) states′ anchors′ handles′ m′
       unfolding modelOf
-      here-on m′ q i = record {
+      here-on m′ q i u = record {
         passed = h .passed;
         opens = rw ls (h .opens);
         names = rw la (h .names);
         tags = rw lh (h .tags);
         reached = on e (h .reached) (h .on) q;
         on = i;
+        unused = u;
       }
 
       went-on : (o : Applied) (t : Bool) → hasPlace events event-size count ≡ t
           → step (rooms terms) (givenOf tokens text terms) (modelOf states anchors handles m) ≡ stepped o e states′ anchors′ handles′
-          → events′ ≡ takenBytes o events count e
+          → events′ ≡ takenBytes o events count e → tidied o states′ anchors′ handles′
           → Turned tokens text terms count events states anchors handles m (takenTurn o t) events′ states′ anchors′ handles′
-      unfolding Turned rest stopped takenTurn takenBytes stepped numbersOf modelOf
-      went-on applied.Stuck t p q b = record {
+      unfolding Turned rest stopped takenTurn takenBytes stepped tidied numbersOf modelOf
+      went-on applied.Stuck t p q b u = record {
         last = _;
         bytes = b;
         rest = run-sticks (rooms terms) (givenOf tokens text terms) (modelOf states anchors handles m) (places events event-size - count) q;
       }
-      went-on (applied.Next m′) false p q b = record {
+      went-on (applied.Next m′) false p q b u = record {
         last = _;
         bytes = b ∙ stored-none events count (numbersOf e) p;
         rest = run-full (rooms terms) (givenOf tokens text terms) (modelOf states anchors handles m) e (modelOf states′ anchors′ handles′ m′) q (places events event-size - count) (omega (arith, no-place events event-size count p));
       }
-      went-on (applied.Next m′) true p q b = go (ended (m′ .state)) refl where
+      went-on (applied.Next m′) true p q b u = go (ended (m′ .state)) refl where
         left : places events event-size - count ≡ suc (places events event-size - suc count)
         left = omega (arith, is-place events event-size count p)
 
@@ -154,7 +156,7 @@ module _ (tokens text : List ℕ) (terms : Terms) (count : ℕ) (states anchors 
           event = e;
           room = is-place events event-size count p;
           bytes = b;
-          here = here-on m′ q i;
+          here = here-on m′ q i u;
           rest = run-goes (rooms terms) (givenOf tokens text terms) (modelOf states anchors handles m) e (modelOf states′ anchors′ handles′ m′) q (places events event-size - count) (places events event-size - suc count) left i;
         }
 
@@ -163,8 +165,27 @@ module _ (tokens text : List ℕ) (terms : Terms) (count : ℕ) (states anchors 
         → Taking tokens text s count events states anchors handles w events′ states′ anchors′ handles′
         → Turned tokens text terms count events states anchors handles m w events′ states′ anchors′ handles′
     turned-taken s q w events′ states′ anchors′ handles′ ls la lh t =
-        let k = step-taken tokens text terms states anchors handles m (reached-fits (h .reached)) s q (t .applied) states′ anchors′ handles′ (h .opens) (h .names) (h .tags) (t .applying) in
-        rw (t .turn) (went-on events′ states′ anchors′ handles′ (s .event) ls la lh (t .applied) (hasPlace events event-size count) refl k (t .bytes))
+        let k = step-taken tokens text terms states anchors handles m (reached-fits (h .reached)) s q (t .applied) states′ anchors′ handles′ (h .opens) (h .names) (h .tags) (h .unused) (t .applying) in
+        rw (t .turn) (went-on events′ states′ anchors′ handles′ (s .event) ls la lh (t .applied) (hasPlace events event-size count) refl (k .0) (t .bytes) (k .1))
+
+-- a turn that ends the run ends it with the number and the place of the rules
+module _ (tokens text : List ℕ) (terms : Terms) (count : ℕ) (events states anchors handles : List ℕ) (m : Machine) where
+  abbrev to-come : Outcome
+  to-come = rest tokens text terms (places events event-size - count) (modelOf states anchors handles m)
+
+  pub went-says : (w : Went) (events′ states′ anchors′ handles′ : List ℕ)
+      → Turned tokens text terms count events states anchors handles m w events′ states′ anchors′ handles′
+      → (n p : ℕ) → wentSays w ≡ Number n p → (to-come .number ≡ n) × (to-come .place ≡ p)
+  unfolding Turned store stop
+  went-says (went.On m′) e s a h t n p q = let z : _≡_ {A = ℕ} 0 1 = cc in absurd (omega arith)
+  went-says went.Ended e s a h t n p q =
+      let i : _≡_ {A = ℕ} 0 n = cc in
+      let j : _≡_ {A = ℕ} 0 p = cc in
+      (rw (t .rest) i, rw (t .rest) j)
+  went-says (went.Stopped f) e s a h t n p q =
+      let i : f .number ≡ n = cc in
+      let j : f .place ≡ p = cc in
+      (rw (t .rest) i, rw (t .rest) j)
 
 -- what is told of a run that has stored `count` events
 abbrev pub finish : ℕ → List ℕ → Outcome → Told
@@ -210,6 +231,7 @@ module _ (tokens text : List ℕ) (terms : Terms) (events₀ : List ℕ) where
       tags = r .tags;
       reached = rw model start;
       on = rw e begun;
+      unused = rw e (r .unused);
     };
     law = rw (model, sub-zero) (finish-start events₀ _);
   } where

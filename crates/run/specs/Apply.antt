@@ -1,11 +1,12 @@
 -- Contracts of the functions that apply a step: what it leaves in the lent bytes, read as the rules' lists, where there are places
--- enough. Who reads `Run` needs none of them.
+-- enough; and what was zero behind the places in use is zero behind those that are in use afterwards. Who reads `Run` needs none
+-- of them.
 use mathlib.Core.Path.{_≡_}
 use Prim.Native.Nat.{ℕ, suc, _-_, _≤_}
 use mathlib.Core.Bool.{Bool}
 use mathlib.Core.List.{List, [], _∷_}
 use lib.ListN.{length}
-use Rattle.places.specs.Places.{places, clearedPlaces}
+use Rattle.places.specs.Places.{places, clearedPlaces, Unused}
 use Rattle.records.specs.Tokens.{token-size}
 use Rattle.tables.specs.Tables.{stack, entered}
 use Rattle.tables.specs.States.{state-size, stateAt}
@@ -49,6 +50,11 @@ unfoldable pub stood : List ℕ → Opened → Stood
 stood b (opened.At s) = Over (s .state) (opensOf b (s .depth))
 stood b opened.Nothing = Empty
 
+-- how many are open then
+unfoldable pub depthOf : Opened → ℕ
+depthOf (opened.At s) = s .depth
+depthOf opened.Nothing = 0
+
 unfoldable pub popped : List State → Stood
 popped [] = Empty
 popped (state ∷ stack) = Over state stack
@@ -66,12 +72,15 @@ deep o.Pop n = n
 
 pub record Pushed (before : List ℕ) (n : ℕ) (p : State) (r : ℕ) (after : List ℕ) : Type 0 where
   pub stack : suc n ≤ places before state-size → opensOf after r ≡ p ∷ opensOf before n
+  pub unused : Unused before state-size n → Unused after state-size r
 
 pub record Popping (before : List ℕ) (n : ℕ) (r : Opened) (after : List ℕ) : Type 0 where
   pub stack : n ≤ places before state-size → stood after r ≡ popped (opensOf before n)
+  pub unused : n ≤ places before state-size → Unused before state-size n → Unused after state-size (depthOf r)
 
 pub record Opening (before : List ℕ) (state : State) (n : ℕ) (change : Open) (r : Opened) (after : List ℕ) : Type 0 where
   pub stack : deep change n ≤ places before state-size → stood after r ≡ opening change state (opensOf before n)
+  pub unused : deep change n ≤ places before state-size → Unused before state-size n → Unused after state-size (depthOf r)
 
 -- an anchor in the place that the search gives
 pub record NamePut (before : List ℕ) (n i : ℕ) (a : Anchor) (r : ℕ) (after : List ℕ) : Type 0 where
@@ -79,11 +88,14 @@ pub record NamePut (before : List ℕ) (n i : ℕ) (a : Anchor) (r : ℕ) (after
       (text : List ℕ) → i ≡ placeFor (find text before anchor-size n (a .name)) n
       → length (entered (anchors.named text (a .name)) a (anchors.anchorsOf before n)) ≤ places before anchor-size
       → anchors.anchorsOf after r ≡ entered (anchors.named text (a .name)) a (anchors.anchorsOf before n)
+  pub unused : i ≤ n → Unused before anchor-size n → Unused after anchor-size r
 
 unfoldable pub Naming : List ℕ → ℕ → Names → ℕ → List ℕ → Type 0
-Naming before n name.Keep r after = anchors.anchorsOf after r ≡ anchors.anchorsOf before n
+Naming before n name.Keep r after =
+    (anchors.anchorsOf after r ≡ anchors.anchorsOf before n) × (Unused before anchor-size n → Unused after anchor-size r)
 Naming before n (name.Put i a) r after = NamePut before n i a r after
-Naming before n name.Forget r after = (after ≡ clearedPlaces before anchor-size n) × (anchors.anchorsOf after r ≡ [])
+Naming before n name.Forget r after =
+    (after ≡ clearedPlaces before anchor-size n) × (anchors.anchorsOf after r ≡ []) × (n ≤ places before anchor-size → Unused before anchor-size n → Unused after anchor-size r)
 
 unfoldable pub numbered : ℕ → Names → ℕ
 numbered next name.Keep = next
@@ -94,6 +106,7 @@ pub record Entering (text before : List ℕ) (n : ℕ) (x : Handle) (r : ℕ) (a
   pub table :
       length (entered (handles.named text (x .name)) x (handles.handlesOf before n)) ≤ places before handle-size
       → handles.handlesOf after r ≡ entered (handles.named text (x .name)) x (handles.handlesOf before n)
+  pub unused : Unused before handle-size n → Unused after handle-size r
 
 -- the handles of the k tokens from `at` on
 pub record Declaring (tokens text before : List ℕ) (n at k r : ℕ) (after : List ℕ) : Type 0 where
@@ -101,11 +114,14 @@ pub record Declaring (tokens text before : List ℕ) (n at k r : ℕ) (after : L
       (keep forget : Bool)
       → length (declare (in-bytes tokens (places tokens token-size) text keep forget) k at (handles.handlesOf before n)) ≤ places before handle-size
       → handles.handlesOf after r ≡ declare (in-bytes tokens (places tokens token-size) text keep forget) k at (handles.handlesOf before n)
+  pub unused : Unused before handle-size n → Unused after handle-size r
 
 unfoldable pub Handling : List ℕ → List ℕ → List ℕ → ℕ → Handles → ℕ → List ℕ → Type 0
-Handling tokens text before n tag.Keep r after = handles.handlesOf after r ≡ handles.handlesOf before n
+Handling tokens text before n tag.Keep r after =
+    (handles.handlesOf after r ≡ handles.handlesOf before n) × (Unused before handle-size n → Unused after handle-size r)
 Handling tokens text before n (tag.Declare i j) r after = Declaring tokens text before n i (j - i) r after
-Handling tokens text before n tag.Forget r after = (after ≡ clearedPlaces before handle-size n) × (handles.handlesOf after r ≡ [])
+Handling tokens text before n tag.Forget r after =
+    (after ≡ clearedPlaces before handle-size n) × (handles.handlesOf after r ≡ []) × (n ≤ places before handle-size → Unused before handle-size n → Unused after handle-size r)
 
 unfoldable pub advanced : Machine → Opened → ℕ → ℕ → ℕ → Applied
 advanced m (opened.At s) names handles next =

@@ -4,9 +4,10 @@ use Prim.Native.Nat.{ℕ, suc, _-_, _/_, _<_}
 use mathlib.Core.Bool.{Bool, true, false, cond}
 use mathlib.Core.List.{List}
 use lib.ListN.{length}
-use Rattle.places.specs.Places.{places, hasPlace, stored}
+use Rattle.places.specs.Places.{places, hasPlace, stored, Unused}
 use Rattle.records.specs.Checks.{firstChecks}
 use Rattle.records.specs.Events.{event-size, numbersOf}
+use Rattle.records.specs.Says.{Says, Goes, Number}
 use Rattle.records.specs.declared.checks.Checked.the-variants as checked
 use Rattle.records.specs.declared.events.Event.{Event}
 use Rattle.records.specs.Tokens.{token-size}
@@ -17,7 +18,7 @@ use Rattle.rules.specs.Rules.Words.{Given}
 use Rattle.rules.specs.Run.{Model, Outcome, stop, store, ended, STUCK}
 use Rattle.rules.specs.Run as rules
 use Rattle.rules.specs.Lists.{in-bytes, Reached}
-use Rattle.parser.specs.Machine.{rooms}
+use Rattle.parser.specs.Machine.{rooms, fresh}
 use Rattle.parser.specs.declared.Machine.{Machine}
 use Rattle.parser.specs.declared.Terms.{Terms}
 use Rattle.parser.specs.declared.Stepped.{Stepped}
@@ -32,6 +33,12 @@ use Rattle.run.specs.declared.apply.Applied.the-variants as applied
 
 unfoldable pub stopped : ℕ → ℕ → Went
 stopped number place = went.Stopped (record { number = number; place = place })
+
+-- document 01's number and place for each case: the run goes on, 0 at StreamEnd, or a refusal
+abbrev pub wentSays : Went → Says Machine
+wentSays (went.On m) = Goes m
+wentSays went.Ended = Number 0 0
+wentSays (went.Stopped e) = Number (e .number) (e .place)
 
 unfoldable pub answered : ℕ → ℕ → ℕ → Answer
 answered number count place = record { number = number; count = count; place = place }
@@ -68,6 +75,12 @@ modelOf states anchors handles m = record {
 unfoldable pub givenOf : List ℕ → List ℕ → Terms → Given
 givenOf tokens text terms = in-bytes tokens (places tokens token-size) text (terms .keep) (terms .forget)
 
+-- the places that the machine does not use are zero
+pub record Tidy (s a h : List ℕ) (m : Machine) : Type 0 where
+  pub states : Unused s state-size (m .depth)
+  pub anchors : Unused a anchor-size (m .names)
+  pub handles : Unused h handle-size (m .handles)
+
 -- a machine that a run has come to after `count` events, and that goes on
 pub record Here (tokens text : List ℕ) (terms : Terms) (count : ℕ) (states anchors handles : List ℕ) (m : Machine) : Type 0 where
   pub passed : firstChecks tokens (length text) ≡ checked.Passed (places tokens token-size)
@@ -76,6 +89,7 @@ pub record Here (tokens text : List ℕ) (terms : Terms) (count : ℕ) (states a
   pub tags : terms .handles ≡ places handles handle-size
   pub reached : Reached (rooms terms) (givenOf tokens text terms) count (modelOf states anchors handles m)
   pub on : ended (m .state) ≡ false
+  pub unused : Tidy states anchors handles m
 
 -- what the turns of a run rely on
 pub record Ready (tokens text : List ℕ) (terms : Terms) (states anchors handles : List ℕ) : Type 0 where
@@ -83,6 +97,7 @@ pub record Ready (tokens text : List ℕ) (terms : Terms) (states anchors handle
   pub opens : terms .states ≡ places states state-size
   pub names : terms .names ≡ places anchors anchor-size
   pub tags : terms .handles ≡ places handles handle-size
+  pub unused : Tidy states anchors handles fresh
 
 -- what is left of the run, with as many places for events
 unfoldable pub rest : List ℕ → List ℕ → Terms → ℕ → Model → Outcome

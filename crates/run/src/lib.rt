@@ -6,8 +6,9 @@ ghost use Rattle.places.specs.Places.{places};
 ghost use Rattle.records.specs.Checks.{firstChecks};
 ghost use Rattle.records.specs.Events.{event-size};
 ghost use Rattle.rules.specs.Run.{ended, fresh};
+ghost use Rattle.parser.specs.Machine as machine;
 ghost use Rattle.run.specs.Run.{told, runs, left, roomsOf, checkedRun};
-ghost use Rattle.run.specs.Turns.{stopped, answered, tell, termsOf, Cleared, Ready, Here, Taking, Turned, rest};
+ghost use Rattle.run.specs.Turns.{stopped, answered, tell, termsOf, Cleared, Tidy, Ready, Here, Taking, Turned, rest};
 
 mod apply;
 
@@ -205,6 +206,7 @@ fn checked_run(
     anchors: &mut [u8],
     handles: &mut [u8],
 ) -> Answer
+    requires { ⌜ Tidy (now states) (now anchors) (now handles) machine.fresh ⌝ }
     ensures { λ r. ⌜ tell r (now (events .exit)) ≡ checkedRun (firstChecks (now (tokens .entry)) (length (now (text .entry)))) (now (tokens .entry)) (now (text .entry)) settings (roomsOf (now (states .entry)) (now (anchors .entry)) (now (handles .entry))) (now (events .entry)) ⌝ }
 {
     let checked = checks::first_checks(tokens, text);
@@ -229,7 +231,7 @@ pub fn run(
 ) -> Answer
     ensures { λ r. ⌜ left r (now (events .exit)) (now (states .exit)) (now (anchors .exit)) (now (handles .exit)) ≡ runs (now (tokens .entry)) (now (text .entry)) settings (now (events .entry)) (now (states .entry)) (now (anchors .entry)) (now (handles .entry)) ⌝ }
 {
-    clear_work(states, anchors, handles);
+    clear_work(states, anchors, handles); // unused places are zero between events
     let answer = checked_run(tokens, text, settings, events, states, anchors, handles);
     clear_work(states, anchors, handles);
     answer

@@ -7,9 +7,10 @@ use Rattle.run.proofs.checked_run.Tie as tie
 
 steps-requires : tie.Need-steps-requires
 steps-requires c κs =
-    let a = c .before .before .before .before .before .before .before .before .before .before .before .before .before .before .args in
+    let b = c .before .before .before .before .before .before .before .before .before .before .before .before .before .before in
+    let a = b .args in
     let t = c .before .before .before .before .terms-of in
-    ready (a .tokens .now) (a .text .now) (a .settings) (a .events .now) (a .states .now) (a .anchors .now) (a .handles .now) _ (sym (c .before .before .before .before .before .before .before .first-checks .ensures) ∙ c .before .before .before .before .before .enum-told .given .1) (t .result) (t .ensures)
+    ready (a .tokens .now) (a .text .now) (a .settings) (a .events .now) (a .states .now) (a .anchors .now) (a .handles .now) _ (sym (c .before .before .before .before .before .before .before .first-checks .ensures) ∙ c .before .before .before .before .before .enum-told .given .1) (t .result) (t .ensures) (b .pre)
 
 returns : tie.Need-returns
 returns c =

@@ -1,8 +1,11 @@
 use mathlib.Core.Path.{_∙_}
 use borrow.Author.Needs.{needs}
-use Rattle.run.proofs.RunLaws.{run-left}
+use Rattle.run.proofs.RunLaws.{tidy-cleared, run-left}
 use Rattle.run.proofs.run.Statement.{statement}
 use Rattle.run.proofs.run.Tie as tie
+
+checked-run-requires : tie.Need-checked-run-requires
+checked-run-requires c κs = search (needs, tidy-cleared)
 
 returns : tie.Need-returns
 returns c =
@@ -19,4 +22,4 @@ pub run-spec : {M : Type 1} → statement M
 run-spec =
     tie.close
     (tie.spec
-    (search needs) (search needs) (search needs) (search needs) (search needs) (search needs) (search needs) returns)
+    (search needs) checked-run-requires (search needs) (search needs) (search needs) (search needs) (search needs) returns)
