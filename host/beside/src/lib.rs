@@ -10,6 +10,6 @@ mod walks;
 pub use face::call;
 pub use mixtures::{mixtures, Mixed};
 pub use saphyr_events::{LINKED, MISSING};
-pub use sweep::{sweep, Difference, Tally};
+pub use sweep::{sweep, sweep_of, Difference, Tally};
 pub use walk::walk;
 pub use walks::{walks, Walked, CLASSES as WALKS};

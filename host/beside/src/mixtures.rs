@@ -2,9 +2,10 @@
 use crate::face::call;
 use crate::growth::grow;
 use lists::List;
-use oracle::{answer, rust_needs, Run};
+use oracle::{answer, answer_after, rust_needs, Run};
 use records::{difference, show_answer, show_case, Answer, Case, Rooms, Settings};
 use std::collections::BTreeMap;
+use std::thread;
 
 /// What came of a sweep.
 #[derive(Clone, Debug, Default, PartialEq, Eq)]
@@ -22,21 +23,40 @@ pub struct Mixed {
 /// Every list of up to `tokens` tokens (see `grow`), with all settings, in every mixture of rooms.
 ///
 /// # Errors
-/// The first call that is not answered as stated, in words.
+/// The first call of a setting that is not answered as stated, in words.
 pub fn mixtures(tokens: usize) -> Result<Mixed, String> {
+    let parts = thread::scope(|scope| {
+        let work = |settings| scope.spawn(move || mixtures_with(tokens, settings));
+        Settings::ALL.map(work).map(|thread| thread.join().expect("the work ends"))
+    });
+    parts.into_iter().try_fold(Mixed::default(), |all, part| Ok(all.with(part?)))
+}
+
+fn mixtures_with(tokens: usize, settings: Settings) -> Result<Mixed, String> {
     let mut mixed = Mixed::default();
     let mut found = Ok(());
-    for settings in Settings::ALL {
-        grow(tokens, settings, |list, full| {
-            if found.is_ok() {
-                found = mixed.take(list, full, settings);
-            }
-        });
-    }
+    grow(tokens, settings, |list, full| {
+        if found.is_ok() {
+            found = mixed.take(list, full, settings);
+        }
+    });
     found.map(|()| mixed)
 }
 
 impl Mixed {
+    /// Both sweeps as one.
+    fn with(mut self, other: Mixed) -> Mixed {
+        for (tokens, lists) in other.lists {
+            *self.lists.entry(tokens).or_default() += lists;
+        }
+        for (number, calls) in other.numbers {
+            *self.numbers.entry(number).or_default() += calls;
+        }
+        self.calls += other.calls;
+        self.several += other.several;
+        self
+    }
+
     fn take(&mut self, list: &List, full: &Run, settings: Settings) -> Result<(), String> {
         *self.lists.entry(list.tokens.len()).or_default() += 1;
         let need = rust_needs(&list.tokens, &list.text, settings).counts();
@@ -45,7 +65,7 @@ impl Mixed {
             let rooms = Rooms::from_counts(std::array::from_fn(|i| need[i] - (short >> i & 1)));
             let case = Case::roomy(&list.tokens, &list.text, settings).with_rooms(rooms);
             let given = call(&case);
-            let as_rust = difference(&case, &answer(&case), &given);
+            let as_rust = difference(&case, &answer_after(full, &case), &given);
             let words = as_rust.or_else(|| as_stated(full, short, &given, &answers));
             if let Some(words) = words {
                 return Err(shown(&words, &case, &given));

@@ -25,12 +25,17 @@ pub struct Difference {
 
 /// `count` lists of a class through both; none if there is no such class.
 pub fn sweep(class: &str, seed: u64, count: usize) -> Option<Tally> {
+    lists::class(class, seed, count).map(sweep_of)
+}
+
+/// These lists through both.
+pub fn sweep_of(cases: impl Iterator<Item = Case>) -> Tally {
     let mut tally = Tally::default();
-    for case in lists::class(class, seed, count)? {
+    for case in cases {
         let (rust, face) = (answer(&case), call(&case));
         tally.take(case, rust, face);
     }
-    Some(tally)
+    tally
 }
 
 impl Tally {

@@ -1,15 +1,18 @@
 //! Every short list, in every mixture of rooms at the need and one place under it.
 use beside::mixtures;
+use emulated::sample::ROOMS;
 use std::collections::BTreeSet;
 
-/// As the command `beside rooms` takes them: 654,424 lists in 4,256,920 calls, in less than half a minute.
-const TOKENS: usize = 6;
+/// Tokens of the longest lists, lists, calls, and calls with several rooms short. All is what the command `beside rooms` takes.
+const TOTALS: [(usize, usize, usize, usize); 2] =
+    [(ROOMS.all, 654_424, 4_256_920, 1_907_756), (ROOMS.less, 93_396, 543_280, 223_448)];
 
 #[test]
 fn rooms_at_the_need_and_one_under_are_answered_as_stated() {
-    let mixed = mixtures(TOKENS).unwrap_or_else(|words| panic!("{words}"));
-    assert_eq!(mixed.lists.values().sum::<usize>(), 654_424, "no list is left out");
+    let tokens = ROOMS.size();
+    let mixed = mixtures(tokens).unwrap_or_else(|words| panic!("{words}"));
+    let found = (tokens, mixed.lists.values().sum(), mixed.calls, mixed.several);
+    assert!(TOTALS.contains(&found), "no list is left out: {found:?}");
     let numbers: BTreeSet<u32> = mixed.numbers.keys().copied().collect();
     assert!(numbers.is_superset(&(22..=25).collect()), "every room was short: {numbers:?}");
-    assert!(mixed.several > 1_000_000, "only {} calls with several rooms short", mixed.several);
 }

@@ -1,11 +1,13 @@
 //! The proved walk beside one written by hand, and beside the Rust's `load`.
 use beside::{walk, walks, WALKS};
+use emulated::sample;
 
 #[test]
 fn the_proved_walk_answers_as_the_one_by_hand() {
+    let count = sample::WALKS.size();
     for (class, make) in WALKS {
-        let walked = walks(make, 1, 4_000);
-        assert_eq!((walked.lists, walked.differ), (4_000, 0), "{class}: {:?}", walked.first);
+        let walked = walks(make, 1, count);
+        assert_eq!((walked.lists, walked.differ), (count, 0), "{class}: {:?}", walked.first);
     }
 }
 

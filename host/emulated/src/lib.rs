@@ -1,5 +1,7 @@
-//! Starting a program of this workspace from another one, also where the machine is not x86-64.
+//! Where the machine is not x86-64: starting a program of this workspace from another one, and how much a test takes.
 #![forbid(unsafe_code)]
+
+pub mod sample;
 
 use std::env;
 use std::ffi::{OsStr, OsString};

@@ -8,6 +8,15 @@ use records::{decode, encode_events, failure, flag, Answer, Case};
 
 /// What the answer to a case must be, with the flags that must hold afterwards.
 pub fn answer(case: &Case) -> Answer {
+    answer_by(case, |job| job.run())
+}
+
+/// The same where the unchanged parser.rs has already run the list with these settings: rooms are nothing to it.
+pub fn answer_after(full: &Run, case: &Case) -> Answer {
+    answer_by(case, |_| full.clone())
+}
+
+fn answer_by(case: &Case, run: impl FnOnce(&Job) -> Run) -> Answer {
     if (case.answer_len as usize) < ANSWER {
         return too_short(case);
     }
@@ -18,7 +27,7 @@ pub fn answer(case: &Case) -> Answer {
     let list = decode(&case.tokens);
     let job = Job::new(&list, &case.text, case.settings());
     let carried = if job.reading() == Reading::Carried { flag::CARRIED } else { 0 };
-    let plain = job.run();
+    let plain = run(&job);
     let noted = job.run_in(case.rooms());
     if !agree(&plain, &noted) {
         let failed = Run { number: failure::DISAGREED, ..plain };

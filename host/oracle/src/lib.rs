@@ -25,7 +25,7 @@ mod parser;
 
 include!(concat!(env!("OUT_DIR"), "/noted.rs"));
 
-pub use answer::answer;
+pub use answer::{answer, answer_after};
 pub use checks::first_checks;
 pub use drive::{rust_needs, rust_rooms, rust_run, Job, Run};
 use input::BufferedInput;

@@ -1,4 +1,5 @@
 //! Every shape is a valid list of its size, and both sides agree on it.
+use emulated::sample;
 use records::sizes::MAX_TOKENS;
 use speed::{agree, Buffers, List, Shape, Side, SHAPES};
 
@@ -44,7 +45,8 @@ fn lists_have_their_size() {
         let near = size.saturating_sub(32)..=size;
         assert!(!shape.of_tokens || near.contains(&list.count()), "{} {size}", shape.name);
     });
-    for shape in SHAPES {
+    assert_eq!(SHAPES.len(), sample::SHAPES.all);
+    for shape in SHAPES.iter().step_by(sample::SHAPES.step()) {
         let largest = shape.list(*shape.sizes.last().expect("a shape has sizes"));
         assert!(largest.count() <= MAX_TOKENS, "{}: {}", shape.name, largest.count());
     }

@@ -1,6 +1,7 @@
 //! The command beside the published scanner and parser together: every YAML file of the host with every setting, and texts
 //! put together at random. The lines are made here from the published crate's own events, lines and columns.
 use crate::call::{tool_fed, Given};
+use emulated::sample;
 use lists::FILES;
 use oracle::number_of;
 use records::kinds::event as kinds;
@@ -97,8 +98,11 @@ fn agreed(yaml: &str, settings: Settings) -> bool {
 #[test]
 fn the_command_prints_what_the_published_crate_gives() {
     let all = FILES.iter().flat_map(|(_, yaml)| Settings::ALL.map(|settings| (yaml, settings)));
-    let refused = all.filter(|(yaml, settings)| agreed(yaml, *settings)).count();
-    assert!(refused > 50, "only {refused} refusals");
+    let all: Vec<_> = all.collect();
+    assert_eq!(all.len(), sample::FILES.all);
+    let taken: Vec<_> = all.into_iter().step_by(sample::FILES.step()).collect();
+    let refused = taken.iter().filter(|(yaml, settings)| agreed(yaml, *settings)).count();
+    assert!(refused > taken.len() / 4, "only {refused} refusals");
 }
 
 const PIECES: [&str; 32] = [
@@ -153,8 +157,8 @@ fn drawn(seed: u64) -> String {
 
 #[test]
 fn so_it_does_for_texts_put_together_at_random() {
-    const TEXTS: u64 = 1_000;
-    let all = (0..TEXTS).map(|seed| (drawn(seed), Settings::ALL[seed as usize % 4]));
-    let refused = all.filter(|(yaml, settings)| agreed(yaml, *settings)).count() as u64;
-    assert!((100..TEXTS - 100).contains(&refused), "{refused} refusals");
+    let texts = sample::TEXTS.size();
+    let all = (0..texts).map(|seed| (drawn(seed as u64), Settings::ALL[seed % 4]));
+    let refused = all.filter(|(yaml, settings)| agreed(yaml, *settings)).count();
+    assert!((texts / 10..texts - texts / 10).contains(&refused), "{refused} refusals");
 }
