@@ -45,11 +45,11 @@ word-after xs ys j =
     let e : (r : ℕ) → length xs + j + r ≡ length xs + (j + r) = λ r. omega arith in
     rw (e 1, e 2, e 3, getD-behind xs ys j, getD-behind xs ys (j + 1), getD-behind xs ys (j + 2), getD-behind xs ys (j + 3))
 
-length-numbers : (t : Token) → length (encode (numbers t)) ≡ 32
+length-numbers : (t : Token) → length (encode (numbers t)) ≡ token-size
 unfolding numbers
 length-numbers t = length-encode (numbers t)
 
-pub length-bytes : (ts : List Token) → length (as-bytes ts) ≡ 32 * length ts
+pub length-bytes : (ts : List Token) → length (as-bytes ts) ≡ token-size * length ts
 unfolding as-bytes
 length-bytes [] = refl
 length-bytes (t ∷ ts) = length-append (encode (numbers t)) (as-bytes ts) ∙ omega (arith, length-numbers t, length-bytes ts)
@@ -92,18 +92,18 @@ sound-at size (t ∷ ts) (suc i) l h = sound-at size ts i (omega arith) (and-bot
 
 -- the k-th number of the i-th record
 word-at : (size : ℕ) (ts : List Token) (i k : ℕ) → i < length ts → k < 8 → all-sound size ts ≡ true
-    → word (as-bytes ts) (32 * i + 4 * k) ≡ getD (numbers (getD ts i no-token)) k 0
+    → word (as-bytes ts) (token-size * i + 4 * k) ≡ getD (numbers (getD ts i no-token)) k 0
 unfolding as-bytes all-sound
 word-at size [] i k l m h = absurd (omega arith)
 word-at size (t ∷ ts) zero k l m h =
-    let e : 32 * zero + 4 * k ≡ 4 * k = omega arith in
+    let e : token-size * zero + 4 * k ≡ 4 * k = omega arith in
     let p = parts size t (and-both (sound size t) (all-sound size ts) h .0) in
     let n = length-numbers t in
     rw e (word-before (encode (numbers t)) (as-bytes ts) (4 * k) (omega arith) ∙ word-encode (numbers t) k (eight t k m))
 word-at size (t ∷ ts) (suc i) k l m h =
     let n = length-numbers t in
-    let e : 32 * suc i + 4 * k ≡ length (encode (numbers t)) + (32 * i + 4 * k) = omega arith in
-    rw e (word-after (encode (numbers t)) (as-bytes ts) (32 * i + 4 * k) ∙ word-at size ts i k (omega arith) m (and-both (sound size t) (all-sound size ts) h .1))
+    let e : token-size * suc i + 4 * k ≡ length (encode (numbers t)) + (token-size * i + 4 * k) = omega arith in
+    rw e (word-after (encode (numbers t)) (as-bytes ts) (token-size * i + 4 * k) ∙ word-at size ts i k (omega arith) m (and-both (sound size t) (all-sound size ts) h .1))
 
 field-at : (size : ℕ) (ts : List Token) (i k : ℕ) → i < length ts → k < 8 → all-sound size ts ≡ true
     → fieldOf (as-bytes ts) token-size i k ≡ getD (numbers (getD ts i no-token)) k 0

@@ -87,7 +87,7 @@ module _ (b : List ℕ) (n : ℕ) (p : State) (s : OpenState) (e : s ≡ numbers
   pub not-pushed : r ≡ false → Pushed b n p n after
   unfolding numbersOf
   not-pushed q = record {
-    stack = λ l. absurd (omega (arith, no-place b 8 n (sym (put .room) ∙ q)));
+    stack = λ l. absurd (omega (arith, no-place b state-size n (sym (put .room) ∙ q)));
     unused = unused-put put (omega arith) (λ e. absurd (clash (sym e ∙ q)));
   }
 
@@ -112,7 +112,7 @@ module _ (b : List ℕ) where
   top-none n e = go (hasPlace b state-size n) refl e where
     go : (r : Bool) → hasPlace b state-size n ≡ r → popped.Nothing ≡ cond r (popped.State (stateAt b n)) popped.Nothing → places b state-size ≤ n
     go true q e = let z : _≡_ {A = ℕ} 0 1 = cc in absurd (omega arith)
-    go false q e = no-place b 8 n q
+    go false q e = no-place b state-size n q
 
   pub some-open : (n : ℕ) (p : OpenState) (after : List ℕ) → Pop b n (popped.State p) after → 0 < n
   some-open n p after h = top-some n p (h .state) .0
@@ -124,7 +124,7 @@ module _ (b : List ℕ) where
       let k : suc n - 1 ≡ n = omega arith in
       record {
         stack = λ l. rw (h .bytes, top-some (suc n) p (h .state) .1, k, opens-lowered n);
-        unused = λ l u. rw (h .bytes, k) (unused-last (0 ∷ 0 ∷ []) (has-place b 8 n l) refl u);
+        unused = λ l u. rw (h .bytes, k) (unused-last (0 ∷ 0 ∷ []) (has-place b state-size n l) refl u);
       }
 
   pub pops-none : (n : ℕ) (after : List ℕ) → Pop b n popped.Nothing after → Popping b n opened.Nothing after
@@ -149,7 +149,7 @@ module _ (b : List ℕ) (n i : ℕ) (x : Anchor) (r : Bool) (after : List ℕ) (
   module _ (text : List ℕ) (e : i ≡ placeFor (find text b anchor-size n (x .name)) n)
       (room : length (entered (a.named text (x .name)) x (a.anchorsOf b n)) ≤ places b anchor-size) where
     there : hasPlace b anchor-size i ≡ true
-    there = has-place b 12 i
+    there = has-place b anchor-size i
         (omega (arith, seat-below (a.named text (x .name)) x 0 n (a.anchorsOf b n) (omega (arith, length-anchors b n)), rw (al.looked text b n (x .name)) at e))
 
     named-by : (k : ℕ) → k ≡ usedAfter (find text b anchor-size n (x .name)) n → a.anchorsOf after k ≡ entered (a.named text (x .name)) x (a.anchorsOf b n)
@@ -159,7 +159,7 @@ module _ (b : List ℕ) (n i : ℕ) (x : Anchor) (r : Bool) (after : List ℕ) (
   pub named-next : i ≡ n → NamePut b n i x (n + 1) after
   unfolding a.numbersOf
   named-next q = record {
-    table = λ text e room. go text e room (seat text b 12 (x .name) n);
+    table = λ text e room. go text e room (seat text b anchor-size (x .name) n);
     unused = λ l. unused-put put (omega arith) (λ _. omega arith);
   } where
     go : (text : List ℕ) (e : i ≡ placeFor (find text b anchor-size n (x .name)) n)
@@ -171,7 +171,7 @@ module _ (b : List ℕ) (n i : ℕ) (x : Anchor) (r : Bool) (after : List ℕ) (
   pub named-own : (i ≡ n → ⊥) → NamePut b n i x n after
   unfolding a.numbersOf
   named-own q = record {
-    table = λ text e room. go text e room (seat text b 12 (x .name) n);
+    table = λ text e room. go text e room (seat text b anchor-size (x .name) n);
     unused = λ l. unused-put put (omega arith) (λ _. omega (arith, q));
   } where
     go : (text : List ℕ) (e : i ≡ placeFor (find text b anchor-size n (x .name)) n)
@@ -202,7 +202,7 @@ module _ (text b : List ℕ) (n : ℕ) (x : Handle) (after : List ℕ) where
   entered-full q = record {
     table = λ room.
         let f = find text b handle-size n (x .name) in
-        let none = no-place b 16 (placeFor f n) (full (hasPlace b handle-size (placeFor f n)) (usedAfter f n) (q .used)) in
+        let none = no-place b handle-size (placeFor f n) (full (hasPlace b handle-size (placeFor f n)) (usedAfter f n) (q .used)) in
         let here = seat-below (h.named text (x .name)) x 0 n (h.handlesOf b n) (omega (arith, length-handles b n)) in
         absurd (omega (arith, rw (hl.looked text b n (x .name)) at none, here));
     unused = unused-entered q;

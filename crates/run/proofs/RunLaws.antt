@@ -12,6 +12,9 @@ use Rattle.records.specs.declared.tokens.Refusal.{Refusal}
 use Rattle.records.proofs.CheckLaws as checks
 use Rattle.records.specs.Tokens.{token-size}
 use Rattle.records.specs.Events.{event-size}
+use Rattle.tables.specs.Handles.{handle-size}
+use Rattle.tables.specs.Anchors.{anchor-size}
+use Rattle.tables.specs.States.{state-size}
 use Rattle.rules.specs.Run.{fresh}
 use Rattle.parser.specs.Machine as machine
 use Rattle.parser.specs.Machine.{rooms}
@@ -46,9 +49,9 @@ module _ (tokens text : List ℕ) (settings : Settings) (events states anchors h
 pub tidy-cleared : {s a h s′ a′ h′ : List ℕ} (m : Machine) → Cleared s a h s′ a′ h′ → Tidy s′ a′ h′ m
 unfolding cleared
 tidy-cleared {s} {a} {h} m c = rw (c .states, c .anchors, c .handles) (record {
-  states = unused-all s 8 (m .depth);
-  anchors = unused-all a 12 (m .names);
-  handles = unused-all h 16 (m .handles);
+  states = unused-all s state-size (m .depth);
+  anchors = unused-all a anchor-size (m .names);
+  handles = unused-all h handle-size (m .handles);
 })
 
 -- zeroing does not ask what stood there

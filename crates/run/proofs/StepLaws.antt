@@ -121,7 +121,7 @@ module _ (tokens text : List ℕ) (terms : Terms) (states anchors handles : List
         → Naming anchors (m .names) (namesAfter x m names) n anchors′ → Unused anchors anchor-size (m .names) → Unused anchors′ anchor-size n
     unfolding Naming namesAfter lent
     names-unused r.NamesKept n l h = h .1
-    names-unused (r.NamePut name) n l h = h .unused (seated text anchors 12 name (m .names))
+    names-unused (r.NamePut name) n l h = h .unused (seated text anchors anchor-size name (m .names))
     names-unused r.NamesForgotten n l h = h .2 l
 
     tags-unused : (tags : r.Tags) (n : ℕ) → m .handles ≤ places handles handle-size

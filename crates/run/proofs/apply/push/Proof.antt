@@ -2,7 +2,7 @@ use native.Mathlib.Omega.{arith}
 use mathlib.Core.Path.{sym, _∙_}
 use borrow.Author.Needs.{needs}
 use Rattle.places.proofs.PlaceLaws.{below}
-use Rattle.tables.specs.States.{numbersOf}
+use Rattle.tables.specs.States.{state-size, numbersOf}
 use Rattle.run.proofs.ApplyLaws.{pushed, not-pushed}
 use Rattle.run.proofs.apply.push.Statement.{statement}
 use Rattle.run.proofs.apply.push.Tie as tie
@@ -12,7 +12,7 @@ unfolding numbersOf
 add-result c =
     let a = c .before .before .before .before .before .before .before .args in
     let put = c .before .before .before .put-state in
-    omega (arith, below (a .bytes .now) 8 (a .n) (sym (put .ensures .room) ∙ c .if1 .taken))
+    omega (arith, below (a .bytes .now) state-size (a .n) (sym (put .ensures .room) ∙ c .if1 .taken))
 
 returns : tie.Need-returns
 returns c =

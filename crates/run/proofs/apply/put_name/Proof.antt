@@ -2,7 +2,7 @@ use native.Mathlib.Omega.{arith}
 use mathlib.Core.Path.{sym, _∙_}
 use borrow.Author.Needs.{needs}
 use Rattle.places.proofs.PlaceLaws.{below}
-use Rattle.tables.specs.Anchors.{numbersOf}
+use Rattle.tables.specs.Anchors.{anchor-size, numbersOf}
 use Rattle.run.proofs.ApplyLaws.{named-next, named-own, not-named}
 use Rattle.run.proofs.apply.put_name.Statement.{statement}
 use Rattle.run.proofs.apply.put_name.Tie as tie
@@ -12,7 +12,7 @@ unfolding numbersOf
 add-result c =
     let a = c .before .before .before .before .before .before .before .args in
     let put = c .before .before .before .before .put-anchor in
-    omega (arith, below (a .bytes .now) 12 (a .i) (sym (put .ensures .room) ∙ c .before .if1 .taken), c .if2 .taken)
+    omega (arith, below (a .bytes .now) anchor-size (a .i) (sym (put .ensures .room) ∙ c .before .if1 .taken), c .if2 .taken)
 
 returns : tie.Need-returns
 returns c =
