@@ -23,15 +23,19 @@ use Rattle.rules.proofs.Runs as rules
 use Rattle.rules.proofs.NeverStuck.{Answer, plain, no-event, no-place, answered, short-range}
 use Rattle.records.specs.Events.{event-size, written}
 use Rattle.records.specs.Tokens.{token-size}
-use Rattle.run.specs.Run.{Left, left, runs, told, checkedRun}
+use Rattle.run.specs.Run.{Left, left, runs, roomsOf, told, checkedRun}
 use Rattle.face.specs.Face.{on}
 use Rattle.promises.specs.Calls.{Call, Leaves, by-run, by-face}
-use Rattle.promises.specs.Demands.{after, known, of-first-checks, Zero, given, rooms, by-rules}
+use Rattle.promises.specs.Demands.{known, of-first-checks, Zero, given, rooms, by-rules}
 use Rattle.promises.proofs.AtTheFace.{face-leaves}
 use Rattle.promises.proofs.ByteLaws.{false-true}
 use Rattle.promises.proofs.WrittenLaws.{written-other, cleared-zero}
 
--- a call leaves what the run of `Run.antt` leaves, whichever function was called
+-- the answer, and the lent bytes afterwards, by the definition of the run
+unfoldable pub after : Call → Left
+after c = runs (c .tokens) (c .text) (c .settings) (c .events) (c .states) (c .anchors) (c .handles)
+
+-- a call leaves that, whichever function was called
 pub leaves : {c : Call} {l : Left} → Leaves c l → l ≡ after c
 unfolding after left on
 leaves (by-run κs a x s k) = k
@@ -51,7 +55,7 @@ abbrev pub Passes : Call → Type 0
 Passes c = checks c ≡ checked.Passed (places (c .tokens) token-size)
 
 pub ran : {c : Call} {l : Left} → Leaves c l → Passes c → Ran c l
-unfolding after runs checkedRun told by-rules given rooms
+unfolding after runs roomsOf checkedRun told by-rules given rooms
 ran k q = let e = leaves k in record { number = rw (e, q); count = rw (e, q); place = rw (e, q); events = rw (e, q) }
 
 -- what the first checks say of a call: a number and its place, which are the answer's, or nothing

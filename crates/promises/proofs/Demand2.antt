@@ -27,7 +27,7 @@ use Rattle.rules.proofs.ListLaws.{plain-list}
 use Rattle.rules.proofs.Rooms.{fitting, needs-bounded}
 use Rattle.rules.proofs.Starred.{computing, starred-right}
 use Rattle.rules.proofs.Numbers.{every-number-right}
-use Rattle.run.specs.Run.{Left, roomsOf}
+use Rattle.run.specs.Run.{Left}
 use Rattle.promises.specs.Bytes.{as-bytes, numbers, small, empty, tidy, sound, all-sound}
 use Rattle.promises.specs.Calls.{Call, Leaves}
 use Rattle.promises.specs.Demands.{Holds, given, rooms, by-rules, Roomy, Lends, Shown, Answered, Each}
@@ -73,7 +73,7 @@ written-given c ts w = rw (w .bytes, places-bytes ts) (given-back ts (c .text) (
 
 -- with room enough, the run is the one that lacks nothing
 pub roomy-run : (c : Call) (ts : List Token) → Written c ts → Roomy c (length ts) → by-rules c ≡ ample (on-list c ts)
-unfolding by-rules rooms roomsOf on-list listed enough
+unfolding by-rules rooms on-list listed enough
 roomy-run c ts w m =
     let l = plain-list ts (c .text) (c .settings .keep) (c .settings .forget) in
     let b = needs-bounded l in

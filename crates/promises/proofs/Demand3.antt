@@ -22,7 +22,7 @@ use Rattle.rules.proofs.ListLaws.{checked-list}
 use Rattle.rules.proofs.Bounds.{places-suffice, last-sound, accepted-last, accepted-3A-4}
 use Rattle.rules.proofs.Witness.{witness, documents-length}
 use Rattle.rules.proofs.Rooms.{by-order, beginning, fitting, exactly, more-room}
-use Rattle.run.specs.Run.{Left, roomsOf}
+use Rattle.run.specs.Run.{Left}
 use Rattle.promises.specs.Bytes.{as-bytes, numbers, small, empty, tidy, sound, all-sound}
 use Rattle.promises.specs.Calls.{Call, Leaves}
 use Rattle.promises.specs.Demands.{given, rooms, by-rules, Roomy, taken, Accepted, Grown}
@@ -35,7 +35,7 @@ unfolding given
 as-list c q = checked-list (c .tokens) (places (c .tokens) token-size) (c .text) (c .settings .keep) (c .settings .forget) q
 
 room-for : (c : Call) (n : ℕ) → Roomy c n → (p : Place) → n ≤ room (rooms c) p
-unfolding rooms roomsOf room
+unfolding rooms room
 room-for c n m OpenPlace = m .states
 room-for c n m AnchorPlace = m .anchors
 room-for c n m HandlePlace = m .handles
@@ -87,7 +87,7 @@ documents-sound size A = rw (le-leb 0 size (omega arith)) (starts-sound size (A 
 
 pub exactly-that-many : (A : ℕ) → 2 ≤ A → A ≤ most-tokens → (c : Call) (l : Left) → Leaves c l → c .tokens ≡ as-bytes (documents A) → length (c .text) ≤ most-text
     → 3 * A - 4 ≤ places (c .events) event-size → 0 < places (c .states) state-size → (l .answer .number ≡ 0) × (l .answer .count ≡ 3 * A - 4)
-unfolding by-rules rooms roomsOf on-list
+unfolding by-rules rooms on-list
 exactly-that-many A two most c l k e t n o =
     let w : Written c (documents A) = record { bytes = e; sound = documents-sound (length (c .text)) A; few = rw (documents-length A two) most; short = t } in
     let r = every-event-right k (written-passes c (documents A) w) in
@@ -121,7 +121,7 @@ module _ {c : Call} {l : Left} (k : Leaves c l) (q : Passes c) where
 
 -- more room never changes an answer that is not 22 to 25
 pub more-never-changes : {c d : Call} {l m : Left} → Leaves c l → Leaves d m → Grown c d → Passes c → (Short (l .answer .number) → ⊥) → Right m (by-rules c)
-unfolding by-rules given rooms roomsOf
+unfolding by-rules given rooms
 more-never-changes {c = c} {d = d} x y g q s =
     let p : Passes d = rw (sym (g .tokens), sym (g .text)) q in
     let e : given d ≡ given c = rw (g .tokens, g .text, g .settings) in

@@ -19,13 +19,9 @@ use Rattle.rules.specs.Rules.Words.{Given, STREAM-END}
 use Rattle.rules.specs.Run.{Rooms, Outcome, fresh, run}
 use Rattle.rules.specs.Lists.{in-bytes}
 use Rattle.rules.specs.Starred.{Pick, Case}
-use Rattle.run.specs.Run.{Left, runs, roomsOf}
+use Rattle.run.specs.Run.{Left}
 use Rattle.promises.specs.Bytes.{as-bytes}
 use Rattle.promises.specs.Calls.{Call, Leaves}
-
--- the answer, and the lent bytes afterwards, by the definition of the run
-unfoldable pub after : Call → Left
-after c = runs (c .tokens) (c .text) (c .settings) (c .events) (c .states) (c .anchors) (c .handles)
 
 -- 0 to 14 and 20 to 27
 unfoldable pub known : ℕ → Bool
@@ -45,7 +41,11 @@ unfoldable pub given : Call → Given
 given c = in-bytes (c .tokens) (places (c .tokens) token-size) (c .text) (c .settings .keep) (c .settings .forget)
 
 unfoldable pub rooms : Call → Rooms
-rooms c = roomsOf (c .states) (c .anchors) (c .handles)
+rooms c = record {
+  opens = places (c .states) state-size;
+  anchors = places (c .anchors) anchor-size;
+  handles = places (c .handles) handle-size;
+}
 
 unfoldable pub by-rules : Call → Outcome
 by-rules c = run (rooms c) (given c) (places (c .events) event-size) fresh
