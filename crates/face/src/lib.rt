@@ -1,4 +1,6 @@
 // The run and the walk of `load` by the C convention, over byte buffers alone. include/saphyr_events.h declares them.
+#![tactic(auto)]
+
 ghost use Rattle.std.specs.Prelude.{◌≡◌};
 ghost use Rattle.face.specs.Face.{faced, saphyr_run, walked, saphyr_load};
 

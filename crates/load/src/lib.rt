@@ -1,5 +1,7 @@
 // The walk of parser.rs's `load`, with `multi` true, over the bytes of any events: only their kinds are read.
 // A node is an alias, a scalar, a sequence of nodes or a mapping of pairs of nodes.
+#![tactic(auto)]
+
 ghost use Rattle.std.specs.Prelude.{◌≡◌};
 ghost use Rattle.load.specs.Load.{kind_at, answered, loaded};
 ghost use Rattle.load.specs.Parts.{Node, Sequence, Mapping, Document};
@@ -10,7 +12,7 @@ use records::events::Event;
 pub const DEPTH: usize = 1000;
 
 // What the walk answers; the place is the index of the event at which a number is given.
-#[derive(Drop)]
+#[derive(Clone, Copy)]
 pub struct Answer {
     pub number: u32,
     pub count: u32,

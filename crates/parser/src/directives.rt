@@ -17,7 +17,7 @@ use tables::lookup::Found;
 
 // What a token behind directives is: one more, or what answers the step. With it go whether a version was met and how
 // many handles are declared, those kept among them.
-#[derive(Drop)]
+#[derive(Clone, Copy)]
 pub enum Directive {
     On(bool, usize),
     Done(Step),

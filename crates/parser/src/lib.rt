@@ -1,5 +1,7 @@
 // The event machine: each step takes the machine by value and hands back the next, with one event. A
 // step only decides; what is to change in the lent places is part of its answer.
+#![tactic(auto)]
+
 ghost use Rattle.std.specs.Prelude.{◌≡◌, length};
 ghost use Rattle.rules.specs.Rules.Words.{plain, empty_scalar, no_tag};
 ghost use Rattle.records.specs.Tokens.{read_at};
@@ -23,7 +25,7 @@ use rules::State;
 use tables::anchors::Anchor;
 
 // The small state. The counts say how many open states, anchors and handles are in use.
-#[derive(Drop)]
+#[derive(Clone, Copy)]
 pub struct Machine {
     pub state: State,
     pub at: usize,
@@ -34,7 +36,7 @@ pub struct Machine {
 }
 
 // The terms of a run: how many places there are, and the two settings.
-#[derive(Drop)]
+#[derive(Clone, Copy)]
 pub struct Terms {
     pub states: usize,
     pub names: usize,
@@ -44,7 +46,7 @@ pub struct Terms {
 }
 
 // What a step changes in the open states.
-#[derive(Drop)]
+#[derive(Clone, Copy)]
 pub enum Open {
     Keep,
     Push(State),
@@ -52,7 +54,7 @@ pub enum Open {
 }
 
 // In the anchors: one goes into a place.
-#[derive(Drop)]
+#[derive(Clone, Copy)]
 pub enum Names {
     Keep,
     Put(usize, Anchor),
@@ -60,7 +62,7 @@ pub enum Names {
 }
 
 // In the handles: those of the tag directives from one token up to another are declared.
-#[derive(Drop)]
+#[derive(Clone, Copy)]
 pub enum Handles {
     Keep,
     Declare(usize, usize),
@@ -69,7 +71,7 @@ pub enum Handles {
 
 // A step that was taken. Its machine has the next state and place, but for a pop, whose state stands in the
 // open places; the counts and the next id follow from what is changed.
-#[derive(Drop)]
+#[derive(Clone, Copy)]
 pub struct Stepped {
     pub machine: Machine,
     pub event: Event,
@@ -78,7 +80,7 @@ pub struct Stepped {
     pub handles: Handles,
 }
 
-#[derive(Drop)]
+#[derive(Clone, Copy)]
 pub enum Step {
     Next(Stepped),
     Refused(Refusal),
@@ -87,7 +89,7 @@ pub enum Step {
 }
 
 // What a node stands over: the open states as they are, or one more that was just pushed.
-#[derive(Drop)]
+#[derive(Clone, Copy)]
 pub enum Over {
     Here,
     Above(State),

@@ -22,7 +22,7 @@ use tables::anchors::Anchor;
 use tables::lookup::Found;
 
 // What stands before a node's content.
-#[derive(Drop)]
+#[derive(Clone, Copy)]
 pub struct Properties {
     pub any: bool,
     pub start: u32,
@@ -33,13 +33,13 @@ pub struct Properties {
 }
 
 // What comes behind the properties: a content or, without one, the step. Side by side, as in a plan.
-#[derive(Drop)]
+#[derive(Clone, Copy)]
 pub struct Behind {
     pub step: Step,
     pub content: Content,
 }
 
-#[derive(Drop)]
+#[derive(Clone, Copy)]
 pub enum Content {
     Nothing,
     // Its place and token, and what stands before it.
@@ -47,14 +47,14 @@ pub enum Content {
 }
 
 // The id of a name.
-#[derive(Drop)]
+#[derive(Clone, Copy)]
 pub enum Known {
     Id(u32),
     Unknown,
 }
 
 // The place that a name is put in.
-#[derive(Drop)]
+#[derive(Clone, Copy)]
 pub enum Place {
     // Its own, or the next one that is free.
     At(usize),

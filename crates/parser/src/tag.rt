@@ -12,7 +12,7 @@ use tables::handles;
 use tables::lookup::Found;
 
 // What a handle stands for: nothing, or a source and a prefix.
-#[derive(Drop)]
+#[derive(Clone, Copy)]
 pub(crate) enum Resolved {
     Undeclared,
     Tagged(u32, Range),

@@ -1,5 +1,7 @@
 // Places: records of one size that stand one after another in lent bytes. A buffer has its length
 // divided by the size, rounded down.
+#![tactic(auto)]
+
 ghost use Rattle.std.specs.Prelude.{◌≡◌, ◌≤◌, length};
 ghost use Rattle.places.specs.Places.{field_of, Put, zeroed, cleared_places};
 

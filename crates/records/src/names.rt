@@ -3,7 +3,7 @@ ghost use Rattle.std.specs.Prelude.{◌≡◌};
 ghost use Rattle.records.specs.Names.{no_range, range_of, same, part, same_name};
 
 // A part of the text, half-open.
-#[derive(Drop)]
+#[derive(Clone, Copy)]
 pub struct Range {
     pub from: u32,
     pub to: u32,

@@ -2,6 +2,8 @@
 // behind is compared with the answer that stands after it. tests/README.md has the framing.
 //
 // Each argument is a file. Writes a line for each, and the totals.
+#![tactic(auto)]
+
 mod bytes;
 mod compare;
 mod frame;

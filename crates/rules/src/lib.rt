@@ -1,11 +1,13 @@
 // The states of the event machine. What each step does is said in specs/.
+#![tactic(auto)]
+
 ghost use Rattle.std.specs.Prelude.{◌≡◌};
 ghost use Rattle.rules.specs.States.{ranked, numbers, back};
 
 use tables::states::OpenState;
 
 // In the order of parser.rs: the rank of a state is its place here, from 0.
-#[derive(Drop)]
+#[derive(Clone, Copy)]
 pub enum State {
     StreamStart,
     ImplicitDocumentStart,

@@ -27,7 +27,7 @@ enum Opened {
 }
 
 // What applying a step comes to.
-#[derive(Drop)]
+#[derive(Clone, Copy)]
 pub(crate) enum Applied {
     Next(Machine),
     Stuck,

@@ -1,4 +1,6 @@
 // Runs the event machine over lent bytes: a step is decided, applied, and its event stored.
+#![tactic(auto)]
+
 ghost use Rattle.std.specs.Prelude.{◌≡◌, suc, ◌<◌, length};
 ghost use Rattle.places.specs.Places.{places};
 ghost use Rattle.records.specs.Checks.{first_checks};
@@ -21,14 +23,14 @@ use tables::handles::Handle;
 use tables::states::OpenState;
 
 // keep: tag directives stay in force behind a document's end. forget: a document forgets the anchors before it.
-#[derive(Drop)]
+#[derive(Clone, Copy)]
 pub struct Settings {
     pub keep: bool,
     pub forget: bool,
 }
 
 // 0 or the number of the refusal, how many events were stored, and the place of the refusal.
-#[derive(Drop)]
+#[derive(Clone, Copy)]
 pub struct Answer {
     pub number: u32,
     pub count: u32,

@@ -6,14 +6,14 @@ use records::names;
 use records::names::Range;
 
 // Where a name stands.
-#[derive(Drop)]
+#[derive(Clone, Copy)]
 pub enum Found {
     At(usize),
     Nothing,
 }
 
 // What entering a name leaves.
-#[derive(Drop)]
+#[derive(Clone, Copy)]
 pub enum Entered {
     // As many places are in use.
     Used(usize),

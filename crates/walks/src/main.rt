@@ -1,4 +1,6 @@
 // The walk over lists of events: a line for each with its number, count and place.
+#![tactic(auto)]
+
 ghost use Rattle.std.specs.Prelude.{◌≡◌, length};
 
 use io::print_decimal;
