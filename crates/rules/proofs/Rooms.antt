@@ -14,7 +14,7 @@ use Rattle.rules.specs.Rules as w
 use Rattle.rules.specs.Rules.{if◌then◌else◌, Given, Place, Decision, Refused, Hit, Miss, Got, first}
 use Rattle.rules.specs.Run.{Rooms, room, limit, Model, fresh, Step, Go, Halt, Stuck, settle, step, Outcome, stop, store, ended, onward, run}
 use Rattle.rules.specs.Lists.{Listed}
-use Rattle.rules.specs.Needs as goal
+use Rattle.rules.specs.Needs as need
 use Rattle.rules.specs.Needs.{Need, Work, Store, lacks, lacked, granted, wanted, decided, free_step, later, needs, all_needs, Fits, peaks, enough, ample, Begins, Cut, same, cut, Short, Wider}
 use Rattle.rules.proofs.NeverStuck.{short_range}
 use Rattle.rules.proofs.Bounds.{places_suffice}
@@ -116,22 +116,22 @@ lacked-short (Store k) = omega arith
 
 -- the first need that is not met, and the most that is needed
 module _ (r : Rooms) (n : ℕ) where
-  fits_on : (x : Need) (p : goal.Peaks) → lacks r n x ≡ false → Fits r n p → Fits r n (goal.raise x p)
-  unfolding lacks goal.raise room
+  fits_on : (x : Need) (p : need.Peaks) → lacks r n x ≡ false → Fits r n p → Fits r n (need.raise x p)
+  unfolding lacks need.raise room
   fits_on (Store k) p e f = omega (arith, ltb-false n k e)
   fits_on (Work w.OpenPlace k) p e f = omega (arith, ltb-false r.opens k e)
   fits_on (Work w.AnchorPlace k) p e f = omega (arith, ltb-false r.anchors k e)
   fits_on (Work w.HandlePlace k) p e f = omega (arith, ltb-false r.handles k e)
 
-  fits_rest : (x : Need) (p : goal.Peaks) → Fits r n (goal.raise x p) → Fits r n p
-  unfolding goal.raise
+  fits_rest : (x : Need) (p : need.Peaks) → Fits r n (need.raise x p) → Fits r n p
+  unfolding need.raise
   fits_rest (Store k) p f = omega arith
   fits_rest (Work w.OpenPlace k) p f = omega arith
   fits_rest (Work w.AnchorPlace k) p f = omega arith
   fits_rest (Work w.HandlePlace k) p f = omega arith
 
-  fits_not : (x : Need) (p : goal.Peaks) → lacks r n x ≡ true → Fits r n (goal.raise x p) → ⊥
-  unfolding lacks goal.raise room
+  fits_not : (x : Need) (p : need.Peaks) → lacks r n x ≡ true → Fits r n (need.raise x p) → ⊥
+  unfolding lacks need.raise room
   fits_not (Store k) p e f = omega (arith, ltb-true n k e)
   fits_not (Work w.OpenPlace k) p e f = omega (arith, ltb-true r.opens k e)
   fits_not (Work w.AnchorPlace k) p e f = omega (arith, ltb-true r.anchors k e)
@@ -174,7 +174,7 @@ begins (cut x q p b) = b
 
 -- the most events that are needed are those of the run, unless they were too many
 wanted_events : (d : Decision) (xs : List Need) → (peaks (wanted d xs)).events ≡ (peaks xs).events
-unfolding wanted peaks goal.raise
+unfolding wanted peaks need.raise
 wanted_events (w.Next c) xs = refl
 wanted_events (w.Refused number place) xs = refl
 wanted_events w.Unreachable xs = refl
@@ -193,7 +193,7 @@ module _ (g : Given) where
 
   events_peak : (N e : ℕ) (m : Model) → ((free_run g N m).number ≡ 22 → ⊥)
       → max e (peaks (needs g N e m)).events ≡ e + length (free_run g N m).events
-  unfolding needs free_run peaks goal.raise store stop if◌then◌else◌
+  unfolding needs free_run peaks need.raise store stop if◌then◌else◌
   events_peak zero e m i = rw (wanted_events (decided g m)) (events_later e m (free_step g m) _ _ λ ev m' q. absurd (i (whole_22 g m m' ev q)))
   events_peak (suc N) e m i = rw (wanted_events (decided g m)) (events_later e m (free_step g m) _ _ λ ev m' q.
       go m' ev (ended m'.state) refl (λ f. events_peak N (suc e) m' (λ p. i (whole_on g N m m' ev q f ∙ p))))
@@ -268,7 +268,7 @@ more_room r r' g n n' h i s = go
     (verdict r n (needs g n' 0 fresh) (cut_run r g n n n' 0 fresh (omega arith) (λ q. i)))
     (verdict r' n' (needs g n' 0 fresh) (cut_run r' g n' n' n' 0 fresh (omega arith) (λ q. omega arith)))
   where
-    go : {whole : Outcome} {p : goal.Peaks} → Verdict (run r g n fresh) whole (Fits r n p)
+    go : {whole : Outcome} {p : need.Peaks} → Verdict (run r g n fresh) whole (Fits r n p)
         → Verdict (run r' g n' fresh) whole (Fits r' n' p)
         → run r' g n' fresh ≡ run r g n fresh
     go (exceeds f e) v = absurd (s e)
