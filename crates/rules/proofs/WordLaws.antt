@@ -111,9 +111,9 @@ module _ {W : Place → ℕ → Type 0} {N : Change → Type 0} where
           each_look _ _ λ i. each_if _
           (λ e. each_alias _ _ _ _ λ x. a _ _ _ i)
           λ e. each_if _
-          (λ e. each_register g m _ (f i) (each_look _ _ λ j. each_if _
-          (λ e. each_tag g m _ _ _ λ q. each_look _ _ λ j. h _ q _ (omega arith) j)
-          (λ e. h _ _ _ (omega arith) j)))
+          (λ e. each_register g m (l.token at) (f i) (each_look _ _ λ j. each_if _
+          (λ e. each_tag g m _ _ _ λ q. each_look _ _ λ j. h (suc (suc at)) q _ (omega arith) j)
+          (λ e. h (suc at) _ _ (omega arith) j)))
           λ e. each_if _
           (λ e. each_tag g m _ _ _ λ q. each_look _ _ λ j. each_if _
           (λ e. each_register g m _ (f i) (each_look _ _ λ j. h _ _ _ (omega arith) j))
