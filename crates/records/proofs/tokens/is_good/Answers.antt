@@ -21,7 +21,7 @@ pub returns-then-within_text : goal.returns-then-within_text
 unfolding good
 returns-then-within_text c =
     let t = c.args.t in
-    simp (le-leb 1 t.kind (omega arith), le-leb t.kind 23 (omega arith), le-leb t.style 4 (omega arith), ← c.within_text-2.ensures, ← c.within_text.ensures, c.if-within_text.true)
+    simp (le-leb 1 t.kind (omega arith), le-leb t.kind 23 (omega arith), le-leb t.style 4 (omega arith), ← c.within_text-then-within_text.ensures, ← c.within_text.ensures, c.if-within_text.true)
 
 pub returns-else-within_text : goal.returns-else-within_text
 unfolding good
