@@ -1,6 +1,7 @@
 -- Each answer is the check that failed first.
+use Rattle.std.proofs.Common.{length, arith}
 use borrow.Author.Tests.{eq-eqb, ne_eqb, lt-ltb, le-ltb}
-use Rattle.records.specs.Checks.{first_checks, check_records}
+use Rattle.records.specs.Checks.{most_text, first_checks, check_records}
 use Rattle.records.proofs.checks.first_checks.Goals as goal
 
 pub returns-then-tokens-ne0 : goal.returns-then-tokens-ne0
@@ -13,19 +14,13 @@ returns-then-n-gt-MOST_TOKENS c =
     simp (eq-eqb _ _ c.if-tokens-ne0.false, lt-ltb _ _ c.if-n-gt-MOST_TOKENS.true)
     c.refuse-then-n-gt-MOST_TOKENS.ensures
 
-pub returns-then-text-gt-MOST_TEXT : goal.returns-then-text-gt-MOST_TEXT
-unfolding first_checks
-returns-then-text-gt-MOST_TEXT c =
-    simp (eq-eqb _ _ c.if-tokens-ne0.false, le-ltb _ _ c.if-n-gt-MOST_TOKENS.false, lt-ltb _ _ c.if-text-gt-MOST_TEXT.true)
-    c.refuse-then-text-gt-MOST_TEXT.ensures
-
 pub returns-then-good-n : goal.returns-then-good-n
 unfolding first_checks check_records
 returns-then-good-n c =
-    simp (eq-eqb _ _ c.if-tokens-ne0.false, le-ltb _ _ c.if-n-gt-MOST_TOKENS.false, le-ltb _ _ c.if-text-gt-MOST_TEXT.false, ← c.good_run-good.ensures, lt-ltb _ _ c.if-good-n.true)
+    simp (eq-eqb _ _ c.if-tokens-ne0.false, le-ltb _ _ c.if-n-gt-MOST_TOKENS.false, le-ltb most_text (length c.args.text.now) (omega arith), ← c.good_run-good.ensures, lt-ltb _ _ c.if-good-n.true)
     c.refuse-then-good-n.ensures
 
 pub returns : goal.returns
 unfolding first_checks check_records
 returns c =
-    simp (eq-eqb _ _ c.if-tokens-ne0.false, le-ltb _ _ c.if-n-gt-MOST_TOKENS.false, le-ltb _ _ c.if-text-gt-MOST_TEXT.false, ← c.good_run-good.ensures, le-ltb _ _ c.if-good-n.false)
+    simp (eq-eqb _ _ c.if-tokens-ne0.false, le-ltb _ _ c.if-n-gt-MOST_TOKENS.false, le-ltb most_text (length c.args.text.now) (omega arith), ← c.good_run-good.ensures, le-ltb _ _ c.if-good-n.false)

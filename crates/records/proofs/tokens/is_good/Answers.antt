@@ -5,18 +5,6 @@ use Rattle.places.proofs.Steps.{steps}
 use Rattle.records.specs.Tokens.{good}
 use Rattle.records.proofs.tokens.is_good.Goals as goal
 
-pub returns-then-t-lt-STREAM_START : goal.returns-then-t-lt-STREAM_START
-unfolding good
-returns-then-t-lt-STREAM_START c = search steps
-
-pub returns-then-t-gt-SCALAR : goal.returns-then-t-gt-SCALAR
-unfolding good
-returns-then-t-gt-SCALAR c = search steps
-
-pub returns-then-t-gt4 : goal.returns-then-t-gt4
-unfolding good
-returns-then-t-gt4 c = search steps
-
 pub returns-then-within_text : goal.returns-then-within_text
 unfolding good
 returns-then-within_text c =
