@@ -53,7 +53,7 @@ fn kind_at(events: &[u8], at: usize) -> u32
 }
 
 // A node, with room for `left` more open collections.
-#[cycle(load_mapping_load_node_load_sequence)]
+#[cycle(nodes)]
 fn load_node(events: &[u8], at: usize, left: usize) -> Part
     ensures { Node events.now at left result }
 {
@@ -77,7 +77,7 @@ fn load_node(events: &[u8], at: usize, left: usize) -> Part
 }
 
 // A sequence behind its start: nodes up to its end, with room for `left` more open collections in each.
-#[cycle(load_mapping_load_node_load_sequence)]
+#[cycle(nodes)]
 fn load_sequence(events: &[u8], at: usize, left: usize) -> Part
     ensures { Sequence events.now at left result }
 {
@@ -93,7 +93,7 @@ fn load_sequence(events: &[u8], at: usize, left: usize) -> Part
 }
 
 // A mapping behind its start: pairs of nodes up to its end.
-#[cycle(load_mapping_load_node_load_sequence)]
+#[cycle(nodes)]
 fn load_mapping(events: &[u8], at: usize, left: usize) -> Part
     ensures { Mapping events.now at left result }
 {

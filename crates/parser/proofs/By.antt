@@ -11,7 +11,7 @@ use Rattle.records.specs.declared.tokens.Token.{Token}
 use Rattle.records.specs.declared.tokens.Refusal.{Refusal}
 use Rattle.records.specs.declared.tokens.Read.{Read}
 use Rattle.records.specs.declared.tokens.Read.TheVariants as read
-use Rattle.rules.specs.Rules.Words.{Decision, Wants, Place, look, seen, is, if◌then◌else◌}
+use Rattle.rules.specs.Rules.Words.{Decision, Wants, Place, look, seen, is, choose◌then◌else◌}
 use Rattle.rules.specs.Run.{Rooms, limit, room, short}
 use Rattle.parser.specs.Machine.{Lent, given}
 use Rattle.parser.specs.Answers.{answer, refusing}
@@ -30,28 +30,28 @@ module _ (x : Lent) (m : Machine) (w : Rooms) (a : Step) where
   unfolding look seen given limit answer refusing
   by_none at k {r} {e} p f q = rw (sym p ∙ f) q
 
-  pub by_is : (t : Token) (n : ℕ) (d e : Decision) → t.kind ≡ n → a ≡ answer x m (limit w d) → a ≡ answer x m (limit w (if is t n then d else e))
-  unfolding is if◌then◌else◌
+  pub by_is : (t : Token) (n : ℕ) (d e : Decision) → t.kind ≡ n → a ≡ answer x m (limit w d) → a ≡ answer x m (limit w (choose is t n then d else e))
+  unfolding is choose◌then◌else◌
   by_is t n d e h q = rw (eq-eqb t.kind n h) q
 
-  pub by_not : (t : Token) (n : ℕ) (d e : Decision) → (t.kind ≡ n → ⊥) → a ≡ answer x m (limit w e) → a ≡ answer x m (limit w (if is t n then d else e))
-  unfolding is if◌then◌else◌
+  pub by_not : (t : Token) (n : ℕ) (d e : Decision) → (t.kind ≡ n → ⊥) → a ≡ answer x m (limit w e) → a ≡ answer x m (limit w (choose is t n then d else e))
+  unfolding is choose◌then◌else◌
   by_not t n d e h q = rw (ne_eqb t.kind n h) q
 
   -- a test that the code makes by a call
-  pub by_yes : (b : Bool) (d e : Decision) {s : Bool} → s ≡ b → s ≡ true → a ≡ answer x m (limit w d) → a ≡ answer x m (limit w (if b then d else e))
-  unfolding if◌then◌else◌
+  pub by_yes : (b : Bool) (d e : Decision) {s : Bool} → s ≡ b → s ≡ true → a ≡ answer x m (limit w d) → a ≡ answer x m (limit w (choose b then d else e))
+  unfolding choose◌then◌else◌
   by_yes b d e h k q = rw (sym h ∙ k) q
 
-  pub by_no : (b : Bool) (d e : Decision) {s : Bool} → s ≡ b → s ≡ false → a ≡ answer x m (limit w e) → a ≡ answer x m (limit w (if b then d else e))
-  unfolding if◌then◌else◌
+  pub by_no : (b : Bool) (d e : Decision) {s : Bool} → s ≡ b → s ≡ false → a ≡ answer x m (limit w e) → a ≡ answer x m (limit w (choose b then d else e))
+  unfolding choose◌then◌else◌
   by_no b d e h k q = rw (sym h ∙ k) q
 
   -- a place that is wanted, and is there or not
   pub by_room : (p : Place) (n : ℕ) (d : Decision) → n < room w p → a ≡ answer x m (limit w d) → a ≡ answer x m (limit w (Wants p (suc n) d))
-  unfolding limit if◌then◌else◌
+  unfolding limit choose◌then◌else◌
   by_room p n d h q = rw (le-leb (suc n) (room w p) h) q
 
   pub by_full : (p : Place) (n : ℕ) (d : Decision) → room w p ≤ n → a ≡ refusing (short p) 0 → a ≡ answer x m (limit w (Wants p (suc n) d))
-  unfolding limit if◌then◌else◌ answer
+  unfolding limit choose◌then◌else◌ answer
   by_full p n d h q = rw (lt-leb (suc n) (room w p) (omega arith)) q

@@ -21,7 +21,7 @@ use Rattle.rules.proofs.Sizes.{entered_size}
 use Rattle.rules.proofs.Granted.{declare_more}
 use Rattle.rules.specs.Rules.{declare, declare_read}
 use Rattle.rules.specs.Rules.Words as r
-use Rattle.rules.specs.Rules.Words.{if◌then◌else◌, is, first, hit?}
+use Rattle.rules.specs.Rules.Words.{choose◌then◌else◌, is, first, hit?}
 use Rattle.parser.specs.Machine.{Lent, given}
 use Rattle.parser.specs.Documents.{unset, told}
 use Rattle.parser.proofs.Arms.{or_true}
@@ -55,34 +55,34 @@ alike text a b c h = rw (same_eq (part text a) (part text b) h)
 -- a name is found behind an entry: among the old ones, or it is the new one's
 entered_hit : (text : List ℕ) (name : Range) (h : Handle) (hs : List Handle)
     → hit? (first (named text name) (entered (named text h.name) h hs)) ≡ hit? (first (named text name) hs) || same_name text h.name name
-unfolding hit? first entered named if◌then◌else◌
+unfolding hit? first entered named choose◌then◌else◌
 entered_hit text name h [] = go (same_name text h.name name) where
-  go : (b : Bool) → hit? (if b then r.Got h else r.Miss) ≡ b
+  go : (b : Bool) → hit? (choose b then r.Got h else r.Miss) ≡ b
   go true = refl
   go false = refl
 entered_hit text name h (y ∷ ys) = go (same_name text y.name h.name) refl (entered_hit text name h ys) where
-  old : (b : Bool) → hit? (if b then r.Got h else first (named text name) ys) ≡ hit? (if b then r.Got y else first (named text name) ys) || b
+  old : (b : Bool) → hit? (choose b then r.Got h else first (named text name) ys) ≡ hit? (choose b then r.Got y else first (named text name) ys) || b
   old true = refl
   old false = or_false (hit? (first (named text name) ys))
 
   new : (b : Bool) → hit? (first (named text name) (entered (named text h.name) h ys)) ≡ hit? (first (named text name) ys) || same_name text h.name name
-      → hit? (if b then r.Got y else first (named text name) (entered (named text h.name) h ys)) ≡ hit? (if b then r.Got y else first (named text name) ys) || same_name text h.name name
+      → hit? (choose b then r.Got y else first (named text name) (entered (named text h.name) h ys)) ≡ hit? (choose b then r.Got y else first (named text name) ys) || same_name text h.name name
   new true ih = refl
   new false ih = ih
 
   go : (b : Bool) → same_name text y.name h.name ≡ b
       → hit? (first (named text name) (entered (named text h.name) h ys)) ≡ hit? (first (named text name) ys) || same_name text h.name name
-      → hit? (first (named text name) (cond b (h ∷ ys) (y ∷ entered (named text h.name) h ys))) ≡ hit? (if same_name text y.name name then r.Got y else first (named text name) ys) || same_name text h.name name
+      → hit? (first (named text name) (cond b (h ∷ ys) (y ∷ entered (named text h.name) h ys))) ≡ hit? (choose same_name text y.name name then r.Got y else first (named text name) ys) || same_name text h.name name
   go true p ih = rw (alike text y.name h.name name p) (old (same_name text h.name name))
   go false p ih = new (same_name text y.name name) ih
 
 module _ (tokens text : List ℕ) (name : Range) where
   read_hit : (r : Read) (hs : List Handle)
       → hit? (first (named text name) (declare_read (unset tokens text) r hs)) ≡ hit? (first (named text name) hs) || told text name r
-  unfolding declare_read told unset in_bytes if◌then◌else◌
+  unfolding declare_read told unset in_bytes choose◌then◌else◌
   read_hit (read.Refused e) hs = or_false _
   read_hit (read.Token t) hs = go (is t r.TAG_DIRECTIVE) where
-    go : (b : Bool) → hit? (first (named text name) (if b then entered (named text t.a) (record { name = t.a; prefix = t.b }) hs else hs)) ≡ hit? (first (named text name) hs) || (if b then same_name text t.a name else false)
+    go : (b : Bool) → hit? (first (named text name) (choose b then entered (named text t.a) (record { name = t.a; prefix = t.b }) hs else hs)) ≡ hit? (first (named text name) hs) || (choose b then same_name text t.a name else false)
     go true = entered_hit text name (record { name = t.a; prefix = t.b }) hs
     go false = or_false _
 
@@ -138,13 +138,13 @@ module _ (tokens text : List ℕ) (from i : ℕ) (hs : List Handle) (h : from �
 
   pub count_other : (t : Token) → read_at tokens (length text) i ≡ read.Token t → is t r.TAG_DIRECTIVE ≡ false
       → length (declare (unset tokens text) (i - from) from hs) ≡ length (declare (unset tokens text) (suc i - from) from hs)
-  unfolding declare_read if◌then◌else◌
+  unfolding declare_read choose◌then◌else◌
   count_other t e n = rw (count_at, e, n)
 
   count_tag : (t : Token) → read_at tokens (length text) i ≡ read.Token t → is t r.TAG_DIRECTIVE ≡ true
       → own tokens text t.a from (i - from) ≡ false
-      → length (declare (unset tokens text) (suc i - from) from hs) ≡ (if hit? (first (named text t.a) hs) || false then length (declare (unset tokens text) (i - from) from hs) else suc (length (declare (unset tokens text) (i - from) from hs)))
-  unfolding declare_read if◌then◌else◌ unset in_bytes
+      → length (declare (unset tokens text) (suc i - from) from hs) ≡ (choose hit? (first (named text t.a) hs) || false then length (declare (unset tokens text) (i - from) from hs) else suc (length (declare (unset tokens text) (i - from) from hs)))
+  unfolding declare_read choose◌then◌else◌ unset in_bytes
   count_tag t e n o =
       rw (count_at, e, n)
       (entered_size (named text t.a) (record { name = t.a; prefix = t.b }) (declare (unset tokens text) (i - from) from hs)
@@ -153,11 +153,11 @@ module _ (tokens text : List ℕ) (from i : ℕ) (hs : List Handle) (h : from �
   pub count_kept : (t : Token) → read_at tokens (length text) i ≡ read.Token t → is t r.TAG_DIRECTIVE ≡ true
       → own tokens text t.a from (i - from) ≡ false → hit? (first (named text t.a) hs) ≡ true
       → length (declare (unset tokens text) (i - from) from hs) ≡ length (declare (unset tokens text) (suc i - from) from hs)
-  unfolding if◌then◌else◌
+  unfolding choose◌then◌else◌
   count_kept t e n o k = sym (count_tag t e n o ∙ rw k)
 
   pub count_new : (t : Token) → read_at tokens (length text) i ≡ read.Token t → is t r.TAG_DIRECTIVE ≡ true
       → own tokens text t.a from (i - from) ≡ false → hit? (first (named text t.a) hs) ≡ false
       → suc (length (declare (unset tokens text) (i - from) from hs)) ≡ length (declare (unset tokens text) (suc i - from) from hs)
-  unfolding if◌then◌else◌
+  unfolding choose◌then◌else◌
   count_new t e n o k = sym (count_tag t e n o ∙ rw k)

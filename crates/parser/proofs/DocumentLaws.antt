@@ -19,7 +19,7 @@ use Rattle.rules.specs.declared.State.TheVariants as s
 use Rattle.rules.specs.Run.{limit, room, short}
 use Rattle.rules.specs.Rules.{passes, past, document, document_names, document_ends, document_start, document_start_at, after_marks}
 use Rattle.rules.specs.Rules.Words as r
-use Rattle.rules.specs.Rules.Words.{if◌then◌else◌, one_of}
+use Rattle.rules.specs.Rules.Words.{choose◌then◌else◌, one_of}
 use Rattle.parser.specs.Machine.{Lent, lent, given, small, rooms}
 use Rattle.parser.specs.Answers.{goes, next, refusing, state_after, open_after, names_after, handles_after, answer, decided}
 use Rattle.parser.specs.Documents.{unset, marks, tags_of}
@@ -30,13 +30,13 @@ use Rattle.parser.specs.declared.Handles.{Handles}
 use Rattle.parser.specs.declared.Handles.TheVariants as h
 
 pub forgets : (x : Lent) (m : Machine) (b : Bool)
-    → names_after x m (if b then r.NamesForgotten else r.NamesKept) ≡ (if b then n.Forget else n.Keep)
-unfolding names_after if◌then◌else◌
+    → names_after x m (choose b then r.NamesForgotten else r.NamesKept) ≡ (choose b then n.Forget else n.Keep)
+unfolding names_after choose◌then◌else◌
 forgets x m true = refl
 forgets x m false = refl
 
-pub clears : (b : Bool) → handles_after (if b then r.TagsKept else r.TagsForgotten) ≡ (if b then h.Keep else h.Forget)
-unfolding handles_after if◌then◌else◌
+pub clears : (b : Bool) → handles_after (choose b then r.TagsKept else r.TagsForgotten) ≡ (choose b then h.Keep else h.Forget)
+unfolding handles_after choose◌then◌else◌
 clears true = refl
 clears false = refl
 
@@ -48,23 +48,23 @@ tags_after h.Forget = refl
 
 module _ (x : Lent) (m : Machine) (at : ℕ) (t : Token) (explicit : ℕ) (state : State) where
   pub document_room : (hs : Handles) → m.depth < x.terms.states
-      → next (goes m at state) (r.plain 3 t.start t.end explicit) (o.Push s.DocumentEnd) (if x.terms.forget then n.Forget else n.Keep) hs ≡ decided x m (λ g m. document g m at t explicit state (tags_of hs))
-  unfolding decided document r.push_state document_names given small limit answer rooms room state_after open_after if◌then◌else◌
+      → next (goes m at state) (r.plain 3 t.start t.end explicit) (o.Push s.DocumentEnd) (choose x.terms.forget then n.Forget else n.Keep) hs ≡ decided x m (λ g m. document g m at t explicit state (tags_of hs))
+  unfolding decided document r.push_state document_names given small limit answer rooms room state_after open_after choose◌then◌else◌
   document_room hs h = rw (le-leb (suc m.depth) x.terms.states h, forgets x m x.terms.forget, tags_after hs)
 
   pub document_full : (tags : r.Tags) → x.terms.states ≤ m.depth → refusing 23 0 ≡ decided x m (λ g m. document g m at t explicit state tags)
-  unfolding decided document r.push_state small limit answer rooms room short if◌then◌else◌
+  unfolding decided document r.push_state small limit answer rooms room short choose◌then◌else◌
   document_full tags h = rw (lt-leb (suc m.depth) x.terms.states (omega arith))
 
   -- nothing lent is looked at
   pub document_same : (tags : r.Tags) → decided (lent [] [] [] [] x.terms) m (λ g m. document g m at t explicit state tags)
       ≡ answer x m (limit (rooms x.terms) (document (given x) (small x m) at t explicit state tags))
-  unfolding decided lent document r.push_state document_names given small limit answer names_after rooms room short if◌then◌else◌
+  unfolding decided lent document r.push_state document_names given small limit answer names_after rooms room short choose◌then◌else◌
   document_same tags = go (leb (suc m.depth) x.terms.states) x.terms.forget where
     ends : Lent → Bool → r.Decision
-    ends y f = r.Next (record { at = at; move = r.Push s.DocumentEnd state; event = r.plain 3 t.start t.end explicit; names = if f then r.NamesForgotten else r.NamesKept; tags = tags })
+    ends y f = r.Next (record { at = at; move = r.Push s.DocumentEnd state; event = r.plain 3 t.start t.end explicit; names = choose f then r.NamesForgotten else r.NamesKept; tags = tags })
 
-    go : (b f : Bool) → answer (lent [] [] [] [] x.terms) m (if b then ends x f else r.Refused 23 0) ≡ answer x m (if b then ends x f else r.Refused 23 0)
+    go : (b f : Bool) → answer (lent [] [] [] [] x.terms) m (choose b then ends x f else r.Refused 23 0) ≡ answer x m (choose b then ends x f else r.Refused 23 0)
     go true true = refl
     go true false = refl
     go false f = refl
@@ -116,14 +116,14 @@ none ks number place (read.Refused q) e h = let z : ◌≡◌ {A = ℕ} 0 1 = cc
 module _ (tokens text ks : List ℕ) (at : ℕ) where
   pub past_on : at < places tokens token_size → passes ks (read_at tokens (length text) at) ≡ true
       → past (unset tokens text) ks (places tokens token_size - at) at ≡ past (unset tokens text) ks (places tokens token_size - suc at) (suc at)
-  unfolding past unset in_bytes if◌then◌else◌
+  unfolding past unset in_bytes choose◌then◌else◌
   past_on h e = go (places tokens token_size - at) (omega arith) where
     go : (n : ℕ) → n ≡ suc (places tokens token_size - suc at)
         → past (unset tokens text) ks n at ≡ past (unset tokens text) ks (places tokens token_size - suc at) (suc at)
     go n q = rw (q, e)
 
   pub past_end : (n : ℕ) → passes ks (read_at tokens (length text) at) ≡ false → past (unset tokens text) ks n at ≡ at
-  unfolding past unset in_bytes if◌then◌else◌
+  unfolding past unset in_bytes choose◌then◌else◌
   past_end zero e = refl
   past_end (suc n) e = rw e
 

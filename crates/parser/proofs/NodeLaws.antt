@@ -28,7 +28,7 @@ use Rattle.tables.specs.Anchors.{anchor_size}
 use Rattle.tables.specs.Handles.{handle_size}
 use Rattle.rules.specs.Rules as rules
 use Rattle.rules.specs.Rules.Words as r
-use Rattle.rules.specs.Rules.Words.{if◌then◌else◌, first, hit?, Hit, Miss, Got}
+use Rattle.rules.specs.Rules.Words.{choose◌then◌else◌, first, hit?, Hit, Miss, Got}
 use Rattle.rules.specs.Rules.{content, node_content, block_content, node, register_anchor, with_tag, tagged, resolve_tag, alias}
 use Rattle.rules.specs.Run.{Rooms, limit, room, short}
 use Rattle.parser.specs.Machine.{Lent, given, small, rooms}
@@ -50,22 +50,22 @@ use Rattle.parser.proofs.By.{by_room, by_full}
 module _ {A : Type 0} (p : A → Bool) (f : ℕ → A) where
   -- the first value of a table is the one in the leftmost place
   pub first_none : (at n : ℕ) → leftmost p at (table f at n) ≡ found.Nothing → first p (table f at n) ≡ Miss
-  unfolding leftmost table first if◌then◌else◌
+  unfolding leftmost table first choose◌then◌else◌
   first_none at zero e = refl
   first_none at (suc n) e = go (p (f at)) e (first_none (suc at) n) where
     go : (t : Bool) → cond t (found.At at) (leftmost p (suc at) (table f (suc at) n)) ≡ found.Nothing
         → (leftmost p (suc at) (table f (suc at) n) ≡ found.Nothing → first p (table f (suc at) n) ≡ Miss)
-        → if◌then◌else◌ {A = Hit A} t (Got (f at)) (first p (table f (suc at) n)) ≡ Miss
+        → choose◌then◌else◌ {A = Hit A} t (Got (f at)) (first p (table f (suc at) n)) ≡ Miss
     go true e ih = let z : ◌≡◌ {A = ℕ} 0 1 = cc in absurd (omega arith)
     go false e ih = ih e
 
   pub first_at : (at n i : ℕ) → leftmost p at (table f at n) ≡ found.At i → first p (table f at n) ≡ Got (f i)
-  unfolding leftmost table first if◌then◌else◌
+  unfolding leftmost table first choose◌then◌else◌
   first_at at zero i e = let z : ◌≡◌ {A = ℕ} 0 1 = cc in absurd (omega arith)
   first_at at (suc n) i e = go (p (f at)) e (first_at (suc at) n i) where
     go : (t : Bool) → cond t (found.At at) (leftmost p (suc at) (table f (suc at) n)) ≡ found.At i
         → (leftmost p (suc at) (table f (suc at) n) ≡ found.At i → first p (table f (suc at) n) ≡ Got (f i))
-        → if◌then◌else◌ {A = Hit A} t (Got (f at)) (first p (table f (suc at) n)) ≡ Got (f i)
+        → choose◌then◌else◌ {A = Hit A} t (Got (f at)) (first p (table f (suc at) n)) ≡ Got (f i)
     go true e ih = let q : at ≡ i = cc in rw q
     go false e ih = ih e
 
@@ -96,10 +96,10 @@ record Placed (q : Found) (n room i : ℕ) : Type 0 where
   free : q ≡ found.Nothing → n < room
 
 placed_at : (q : Found) (n room i : ℕ) → placed q n room ≡ place.At i → Placed q n room i
-unfolding placed place_for if◌then◌else◌
+unfolding placed place_for choose◌then◌else◌
 placed_at (found.At j) n room i e = record { own = cc; free = λ f. let z : ◌≡◌ {A = ℕ} 0 1 = cc in absurd (omega arith) }
 placed_at found.Nothing n room i e = go (ltb n room) refl e where
-  go : (t : Bool) → ltb n room ≡ t → if◌then◌else◌ {A = Place} t (place.At n) place.Full ≡ place.At i → Placed found.Nothing n room i
+  go : (t : Bool) → ltb n room ≡ t → choose◌then◌else◌ {A = Place} t (place.At n) place.Full ≡ place.At i → Placed found.Nothing n room i
   go true h e = record { own = cc; free = λ f. ltb-true n room h }
   go false h e = let z : ◌≡◌ {A = ℕ} 0 1 = cc in absurd (omega arith)
 
@@ -109,10 +109,10 @@ record Unplaced (q : Found) (n room : ℕ) : Type 0 where
   full : room ≤ n
 
 placed_full : (q : Found) (n room : ℕ) → placed q n room ≡ place.Full → Unplaced q n room
-unfolding placed if◌then◌else◌
+unfolding placed choose◌then◌else◌
 placed_full (found.At j) n room e = let z : ◌≡◌ {A = ℕ} 0 1 = cc in absurd (omega arith)
 placed_full found.Nothing n room e = go (ltb n room) refl e where
-  go : (t : Bool) → ltb n room ≡ t → if◌then◌else◌ {A = Place} t (place.At n) place.Full ≡ place.Full → Unplaced found.Nothing n room
+  go : (t : Bool) → ltb n room ≡ t → choose◌then◌else◌ {A = Place} t (place.At n) place.Full ≡ place.Full → Unplaced found.Nothing n room
   go true h e = let z : ◌≡◌ {A = ℕ} 0 1 = cc in absurd (omega arith)
   go false h e = record { new = refl; full = ltb-false n room h }
 
@@ -128,8 +128,8 @@ module _ (x : Lent) (m : Machine) (w : Rooms) where
   either : (t : Bool) (d e : r.Decision) (names : r.Names)
       → answer x m (limit w d) ≡ named_answer m (names_after x m names) d
       → answer x m (limit w e) ≡ named_answer m (names_after x m names) e
-      → answer x m (limit w (if t then d else e)) ≡ named_answer m (names_after x m names) (if t then d else e)
-  unfolding if◌then◌else◌
+      → answer x m (limit w (choose t then d else e)) ≡ named_answer m (names_after x m names) (choose t then d else e)
+  unfolding choose◌then◌else◌
   either true d e names p q = p
   either false d e names p q = q
 
@@ -199,7 +199,7 @@ module _ (x : Lent) (m : Machine) (a : Step) (t : Token) (d : r.Decision) {q : P
 
   pub by_registered : {i : ℕ} → q ≡ place.At i → a ≡ answer x m (limit (rooms x.terms) d)
       → a ≡ answer x m (limit (rooms x.terms) (register_anchor (given x) (small x m) t d))
-  unfolding place_of register_anchor given small hit? if◌then◌else◌ short room rooms
+  unfolding place_of register_anchor given small hit? choose◌then◌else◌ short room rooms
   by_registered {i} f h = go q' refl where
     go : (z : Found) → q' ≡ z → a ≡ answer x m (limit (rooms x.terms) (register_anchor (given x) (small x m) t d))
     go (found.At j) g = rw (anchor_at_lem x.text x.names m.names t.a refl j g) h
@@ -209,7 +209,7 @@ module _ (x : Lent) (m : Machine) (a : Step) (t : Token) (d : r.Decision) {q : P
 
   pub by_unregistered : q ≡ place.Full → a ≡ refusing 24 0
       → a ≡ answer x m (limit (rooms x.terms) (register_anchor (given x) (small x m) t d))
-  unfolding place_of register_anchor given small hit? if◌then◌else◌ short room rooms
+  unfolding place_of register_anchor given small hit? choose◌then◌else◌ short room rooms
   by_unregistered f h =
       let u = placed_full q' m.names x.terms.names (sym e ∙ f) in
       rw (anchor_none x.text x.names m.names t.a refl u.new)

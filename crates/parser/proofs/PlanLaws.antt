@@ -11,7 +11,7 @@ use Rattle.records.specs.declared.tokens.Read.{Read}
 use Rattle.records.specs.declared.tokens.Read.TheVariants as read
 use Rattle.rules.specs.Rules as rules
 use Rattle.rules.specs.Rules.Words as r
-use Rattle.rules.specs.Rules.Words.{if◌then◌else◌, look, seen, is}
+use Rattle.rules.specs.Rules.Words.{choose◌then◌else◌, look, seen, is}
 use Rattle.rules.specs.Run.{Rooms, limit, room, short}
 use Rattle.rules.specs.declared.State.{State}
 use Rattle.rules.specs.declared.State.TheVariants as s
@@ -108,23 +108,23 @@ module _ (x : Lent) (m : Machine) where
   -- an entry behind a comma, the first one, or neither
   module _ (w : Rooms) (a : Step) (first : Bool) (t : Token) (n at : ℕ) (k : ℕ → r.Decision) where
     abbrev entry : r.Decision
-    entry = if first then k at else if is t r.FLOW_ENTRY then k (suc at) else r.Refused n t.start
+    entry = choose first then k at else choose is t r.FLOW_ENTRY then k (suc at) else r.Refused n t.start
 
     by_comma : {b : Bool} → b ≡ (not first && not (is t 17)) → b ≡ true → a ≡ refusing n t.start → a ≡ answer x m (limit w entry)
-    unfolding if◌then◌else◌ answer limit
+    unfolding choose◌then◌else◌ answer limit
     by_comma e f h = go first (is t 17) (sym e ∙ f) h where
       go : (f₁ c₁ : Bool) → (not f₁ && not c₁) ≡ true → a ≡ refusing n t.start
-          → a ≡ answer x m (limit w (if f₁ then k at else if c₁ then k (suc at) else r.Refused n t.start))
+          → a ≡ answer x m (limit w (choose f₁ then k at else choose c₁ then k (suc at) else r.Refused n t.start))
       go false false e h = h
       go true y e h = let z : ◌≡◌ {A = ℕ} 0 1 = cc in absurd (omega arith)
       go false true e h = let z : ◌≡◌ {A = ℕ} 0 1 = cc in absurd (omega arith)
 
-    by_entry : {b : Bool} {i : ℕ} → b ≡ (not first && not (is t 17)) → b ≡ false → i ≡ (if first then at else suc at) → a ≡ answer x m (limit w (k i))
+    by_entry : {b : Bool} {i : ℕ} → b ≡ (not first && not (is t 17)) → b ≡ false → i ≡ (choose first then at else suc at) → a ≡ answer x m (limit w (k i))
         → a ≡ answer x m (limit w entry)
-    unfolding if◌then◌else◌
+    unfolding choose◌then◌else◌
     by_entry {i = i} e f g h = go first (is t 17) (sym e ∙ f) g where
-      go : (f₁ c₁ : Bool) → (not f₁ && not c₁) ≡ false → i ≡ (if f₁ then at else suc at)
-          → a ≡ answer x m (limit w (if f₁ then k at else if c₁ then k (suc at) else r.Refused n t.start))
+      go : (f₁ c₁ : Bool) → (not f₁ && not c₁) ≡ false → i ≡ (choose f₁ then at else suc at)
+          → a ≡ answer x m (limit w (choose f₁ then k at else choose c₁ then k (suc at) else r.Refused n t.start))
       go true y e g = rw (← g) h
       go false true e g = rw (← g) h
       go false false e g = let z : ◌≡◌ {A = ℕ} 0 1 = cc in absurd (omega arith)
@@ -138,7 +138,7 @@ module _ (x : Lent) (m : Machine) where
         → a ≡ answer x m (limit w (entry w a first t 10 at pair))
     by_no_pair = by_comma w a first t 10 at pair
 
-    pub by_pair : {b : Bool} {i : ℕ} → b ≡ (not first && not (is t 17)) → b ≡ false → i ≡ (if first then at else suc at)
+    pub by_pair : {b : Bool} {i : ℕ} → b ≡ (not first && not (is t 17)) → b ≡ false → i ≡ (choose first then at else suc at)
         → a ≡ answer x m (limit w (rules.flow_mapping_entry (given x) (small x m) i t)) → a ≡ answer x m (limit w (entry w a first t 10 at pair))
     by_pair = by_entry w a first t 10 at pair
 
@@ -148,7 +148,7 @@ module _ (x : Lent) (m : Machine) where
         → a ≡ answer x m (limit w (entry w a first t 11 at (rules.flow_entry (given x) (small x m))))
     by_no_item = by_comma w a first t 11 at (rules.flow_entry (given x) (small x m))
 
-    pub by_item : {b : Bool} {i : ℕ} → b ≡ (not first && not (is t 17)) → b ≡ false → i ≡ (if first then at else suc at)
+    pub by_item : {b : Bool} {i : ℕ} → b ≡ (not first && not (is t 17)) → b ≡ false → i ≡ (choose first then at else suc at)
         → a ≡ answer x m (limit w (rules.flow_entry (given x) (small x m) i)) → a ≡ answer x m (limit w (entry w a first t 11 at (rules.flow_entry (given x) (small x m))))
     by_item = by_entry w a first t 11 at (rules.flow_entry (given x) (small x m))
 

@@ -23,7 +23,7 @@ use Rattle.tables.proofs.TableLaws.{length_table}
 use Rattle.rules.specs.Rules as rules
 use Rattle.rules.specs.Rules.{declare, parser_process_directives, after_directives, explicit_document_start}
 use Rattle.rules.specs.Rules.Words as r
-use Rattle.rules.specs.Rules.Words.{if◌then◌else◌, is, first, hit?, look, seen}
+use Rattle.rules.specs.Rules.Words.{choose◌then◌else◌, is, first, hit?, look, seen}
 use Rattle.rules.specs.Run.{limit, room, short}
 use Rattle.parser.specs.Machine.{Lent, lent, given, small, rooms}
 use Rattle.parser.specs.Answers.{answer, decided, refusing}
@@ -86,8 +86,8 @@ module _ (x : Lent) (m : Machine) (from : ℕ) where
 
     -- the handle is kept or new, and there is room for all or not
     turn_room : (L : ℕ) → L ≡ declared_to (suc at) → (b : Bool) → leb L x.terms.handles ≡ b → (e : Directive)
-        → e ≡ (if b then d.On version L else d.Done (refusing 25 0)) → Turned (answered (r.Wants r.HandlePlace (declared_to (suc at)) (rest version))) at e
-    unfolding limit answer refusing rooms room short if◌then◌else◌
+        → e ≡ (choose b then d.On version L else d.Done (refusing 25 0)) → Turned (answered (r.Wants r.HandlePlace (declared_to (suc at)) (rest version))) at e
+    unfolding limit answer refusing rooms room short choose◌then◌else◌
     turn_room L l true b e k = rw (k, ← l, b) (on version L here refl l)
     turn_room L l false b e k = rw (k, ← l, b) (done _ refl)
 
@@ -102,13 +102,13 @@ module _ (x : Lent) (m : Machine) (from : ℕ) where
         turn_room (used + 1) (rw (add-one, u) (count_new x.tokens x.text from at (handles_of x.tags m.handles) behind t q k o h)) _ refl _ (rw (less used x.terms.handles))
 
     turn_tag : is t r.TAG_DIRECTIVE ≡ true → Turned (answered (rules.tag_directive (given x) (small x m) from at t (rest version))) at (tag_directive x m from at version used t)
-    unfolding rules.tag_directive tag_directive given small limit answer refusing if◌then◌else◌
+    unfolding rules.tag_directive tag_directive given small limit answer refusing choose◌then◌else◌
     turn_tag k =
         rw (declare-unset x (at - from) from [], declare-unset x (suc at - from) from (handles_of x.tags m.handles))
         (go (own x.tokens x.text t.a from (at - from)) refl)
       where
         go : (b : Bool) → own x.tokens x.text t.a from (at - from) ≡ b
-            → Turned (answered (if b then r.Refused 4 t.start else r.Wants r.HandlePlace (declared_to (suc at)) (rest version))) at (if b then d.Done (refusing 4 t.start) else counted x.terms.handles (find x.text x.tags handle_size m.handles t.a) version used)
+            → Turned (answered (choose b then r.Refused 4 t.start else r.Wants r.HandlePlace (declared_to (suc at)) (rest version))) at (choose b then d.Done (refusing 4 t.start) else counted x.terms.handles (find x.text x.tags handle_size m.handles t.a) version used)
         go true o = done _ refl
         go false o = turn_counted k o _ refl
 
@@ -117,25 +117,25 @@ module _ (x : Lent) (m : Machine) (from : ℕ) where
 
     -- what the rule does with the token
     turn_token : Turned (onward (suc (places x.tokens token_size - suc at)) at version) at (directive_read x m from at version used (read.Token t))
-    unfolding parser_process_directives directive_read look seen given limit answer refusing decided if◌then◌else◌
+    unfolding parser_process_directives directive_read look seen given limit answer refusing decided choose◌then◌else◌
     turn_token = rw q (version? (is t r.VERSION_DIRECTIVE) refl) where
       reserved : (b : Bool) → is t r.TAG_DIRECTIVE ≡ false
-          → Turned (answered (if b then rest version else after_directives (given x) (small x m) from at)) at (if b then d.On version used else d.Done (decided x m (λ g m. after_directives g m from at)))
+          → Turned (answered (choose b then rest version else after_directives (given x) (small x m) from at)) at (choose b then d.On version used else d.Done (decided x m (λ g m. after_directives g m from at)))
       reserved true n = on version used here refl (other n)
       reserved false n = done _ refl
 
       tag? : (b : Bool) → is t r.TAG_DIRECTIVE ≡ b
-          → Turned (answered (if b then rules.tag_directive (given x) (small x m) from at t (rest version) else if is t r.RESERVED_DIRECTIVE then rest version else after_directives (given x) (small x m) from at)) at (if b then tag_directive x m from at version used t else if is t r.RESERVED_DIRECTIVE then d.On version used else d.Done (decided x m (λ g m. after_directives g m from at)))
+          → Turned (answered (choose b then rules.tag_directive (given x) (small x m) from at t (rest version) else choose is t r.RESERVED_DIRECTIVE then rest version else after_directives (given x) (small x m) from at)) at (choose b then tag_directive x m from at version used t else choose is t r.RESERVED_DIRECTIVE then d.On version used else d.Done (decided x m (λ g m. after_directives g m from at)))
       tag? true k = turn_tag k
       tag? false n = reserved (is t r.RESERVED_DIRECTIVE) n
 
       twice? : (b : Bool) → is t r.TAG_DIRECTIVE ≡ false
-          → Turned (answered (if b then r.Refused 3 t.start else rest true)) at (if b then d.Done (refusing 3 t.start) else d.On true used)
+          → Turned (answered (choose b then r.Refused 3 t.start else rest true)) at (choose b then d.Done (refusing 3 t.start) else d.On true used)
       twice? true n = done _ refl
       twice? false n = on true used here refl (other n)
 
       version? : (b : Bool) → is t r.VERSION_DIRECTIVE ≡ b
-          → Turned (answered (if b then (if version then r.Refused 3 t.start else rest true) else if is t r.TAG_DIRECTIVE then rules.tag_directive (given x) (small x m) from at t (rest version) else if is t r.RESERVED_DIRECTIVE then rest version else after_directives (given x) (small x m) from at)) at (if b then (if version then d.Done (refusing 3 t.start) else d.On true used) else if is t r.TAG_DIRECTIVE then tag_directive x m from at version used t else if is t r.RESERVED_DIRECTIVE then d.On version used else d.Done (decided x m (λ g m. after_directives g m from at)))
+          → Turned (answered (choose b then (choose version then r.Refused 3 t.start else rest true) else choose is t r.TAG_DIRECTIVE then rules.tag_directive (given x) (small x m) from at t (rest version) else choose is t r.RESERVED_DIRECTIVE then rest version else after_directives (given x) (small x m) from at)) at (choose b then (choose version then d.Done (refusing 3 t.start) else d.On true used) else choose is t r.TAG_DIRECTIVE then tag_directive x m from at version used t else choose is t r.RESERVED_DIRECTIVE then d.On version used else d.Done (decided x m (λ g m. after_directives g m from at)))
       version? true k = twice? version (not_tag t k)
       version? false n = tag? (is t r.TAG_DIRECTIVE) refl
 

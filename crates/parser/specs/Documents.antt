@@ -14,7 +14,7 @@ use Rattle.tables.specs.declared.lookup.Found.TheVariants as found
 use Rattle.rules.specs.Lists.{in_bytes}
 use Rattle.rules.specs.Rules.{declare, after_directives}
 use Rattle.rules.specs.Rules.Words as r
-use Rattle.rules.specs.Rules.Words.{if◌then◌else◌, is, first, hit?}
+use Rattle.rules.specs.Rules.Words.{choose◌then◌else◌, is, first, hit?}
 use Rattle.parser.specs.Machine.{Lent}
 use Rattle.parser.specs.Answers.{refusing, decided}
 use Rattle.parser.specs.declared.Machine.{Machine}
@@ -41,16 +41,16 @@ tags_of h.Forget = r.TagsForgotten
 -- whether a record is a TagDirective with this handle
 unfoldable pub told : List ℕ → Range → Read → Bool
 told text name (read.Refused e) = false
-told text name (read.Token t) = if is t r.TAG_DIRECTIVE then same_name text t.a name else false
+told text name (read.Token t) = choose is t r.TAG_DIRECTIVE then same_name text t.a name else false
 
 -- one handle more behind `used`, or one that is kept already
 unfoldable pub counted : ℕ → Found → Bool → ℕ → Directive
-counted room (found.At i) version used = if leb used room then d.On version used else d.Done (refusing 25 0)
-counted room found.Nothing version used = if ltb used room then d.On version (used + 1) else d.Done (refusing 25 0)
+counted room (found.At i) version used = choose leb used room then d.On version used else d.Done (refusing 25 0)
+counted room found.Nothing version used = choose ltb used room then d.On version (used + 1) else d.Done (refusing 25 0)
 
 unfoldable pub tag_directive : Lent → Machine → ℕ → ℕ → Bool → ℕ → Token → Directive
 tag_directive x m from at version used t =
-    if hit? (first (named x.text t.a) (declare (unset x.tokens x.text) (at - from) from []))
+    choose hit? (first (named x.text t.a) (declare (unset x.tokens x.text) (at - from) from []))
     then d.Done (refusing 4 t.start)
     else counted x.terms.handles (find x.text x.tags handle_size m.handles t.a) version used
 
@@ -58,9 +58,9 @@ tag_directive x m from at version used t =
 unfoldable pub directive_read : Lent → Machine → ℕ → ℕ → Bool → ℕ → Read → Directive
 directive_read x m from at version used (read.Refused e) = d.Done (st.Refused e)
 directive_read x m from at version used (read.Token t) =
-    if is t r.VERSION_DIRECTIVE then (if version then d.Done (refusing 3 t.start) else d.On true used)
-    else if is t r.TAG_DIRECTIVE then tag_directive x m from at version used t
-    else if is t r.RESERVED_DIRECTIVE then d.On version used
+    choose is t r.VERSION_DIRECTIVE then (choose version then d.Done (refusing 3 t.start) else d.On true used)
+    else choose is t r.TAG_DIRECTIVE then tag_directive x m from at version used t
+    else choose is t r.RESERVED_DIRECTIVE then d.On version used
     else d.Done (decided x m (λ g m. after_directives g m from at))
 
 unfoldable pub directive : Lent → Machine → ℕ → ℕ → Bool → ℕ → Directive

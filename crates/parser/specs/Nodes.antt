@@ -67,7 +67,7 @@ known_of (r.Got a) = k.Id a.id
 -- the place of a name that was looked up among n, with room for `room`
 unfoldable pub placed : Found → ℕ → ℕ → Place
 placed (found.At i) n room = p.At i
-placed found.Nothing n room = r.if◌then◌else◌ (ltb n room) (p.At n) p.Full
+placed found.Nothing n room = r.choose◌then◌else◌ (ltb n room) (p.At n) p.Full
 
 unfoldable pub place_of : List ℕ → List ℕ → ℕ → ℕ → Range → Place
 place_of text names n room name = placed (find text names anchor_size n name) n room

@@ -2,7 +2,7 @@
 ghost use Rattle.std.specs.Prelude.{◌≡◌, [], ◌-◌, length};
 ghost use Rattle.places.specs.Places.{places};
 ghost use Rattle.records.specs.Tokens.{token_size, read_at};
-ghost use Rattle.rules.specs.Rules.Words.{if◌then◌else◌};
+ghost use Rattle.rules.specs.Rules.Words.{choose◌then◌else◌};
 ghost use Rattle.rules.specs.Rules.{stream_start, passes, past, document_start, document_start_at, after_directives, document, document_content, document_end, after_marks, document_end_at, document_ends};
 ghost use Rattle.parser.specs.Machine.{lent};
 ghost use Rattle.parser.specs.Answers.{decided};
@@ -39,14 +39,14 @@ fn past(tokens: &[u8], text: &[u8], at: usize, ends: bool) -> usize
 
 // Names are forgotten at each DocumentStart, where that is asked for.
 fn forgotten(forget: bool) -> Names
-    ensures { result ≡ (if forget then Names.Forget else Names.Keep) }
+    ensures { result ≡ (choose forget then Names.Forget else Names.Keep) }
 {
     if forget { Names::Forget } else { Names::Keep }
 }
 
 // Tags are cleared where a document ends, unless they are kept.
 fn cleared(keep: bool) -> Handles
-    ensures { result ≡ (if keep then Handles.Keep else Handles.Forget) }
+    ensures { result ≡ (choose keep then Handles.Keep else Handles.Forget) }
 {
     if keep { Handles::Keep } else { Handles::Forget }
 }

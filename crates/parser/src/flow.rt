@@ -1,6 +1,6 @@
 // The flow states.
 ghost use Rattle.std.specs.Prelude.{◌≡◌, ◌&&◌, not, List, ℕ};
-ghost use Rattle.rules.specs.Rules.Words.{is, if◌then◌else◌};
+ghost use Rattle.rules.specs.Rules.Words.{is, choose◌then◌else◌};
 ghost use Rattle.rules.specs.Rules.{flow_sequence_entry, flow_entry, flow_sequence_entry_mapping_key, flow_sequence_entry_mapping_value, flow_sequence_entry_mapping_end, flow_mapping_key, flow_mapping_entry, flow_mapping_value};
 ghost use Rattle.parser.specs.Plans.{Plans};
 
@@ -23,7 +23,7 @@ fn no_comma(first: bool, t: Token) -> bool
 
 // Where an entry starts: behind the comma, but for the first.
 fn entry_at(first: bool, at: usize, next: usize) -> usize
-    ensures { result ≡ (if first then at else next) }
+    ensures { result ≡ (choose first then at else next) }
 {
     if first { at } else { next }
 }

@@ -11,7 +11,7 @@ use Rattle.places.specs.Words.{word, encode}
 use Rattle.places.specs.Places.{places, has_place, field_of}
 use Rattle.places.proofs.WordLaws.{length-encode, word-encode}
 use Rattle.records.specs.Names.{no_range, range_of}
-use Rattle.records.specs.Tokens.{token_size, uses_a, uses_b, uses_style, range_if, style_if, token_at, good, last_end, read_at_lem}
+use Rattle.records.specs.Tokens.{token_size, uses_a, uses_b, uses_style, range_if, style_if, token_at, good, last_end, read_at}
 use Rattle.records.specs.declared.names.Range.{Range}
 use Rattle.records.specs.declared.tokens.Token.{Token}
 use Rattle.records.specs.declared.tokens.Read.TheVariants as read
@@ -141,8 +141,8 @@ token_at_lem size ts i l h =
     (rw (range_is (uses_a t.kind) t.a p.a_used, range_is (uses_b t.kind) t.b p.b_used, style_is (uses_style t.kind) t.style p.style_used))
 
 -- the i-th record is the i-th token
-pub read_at_lem : (size : ℕ) (ts : List Token) → all_sound size ts ≡ true → (i : ℕ) → i < length ts → read_at_lem (as_bytes ts) size i ≡ read.Token (get_or ts i no_token)
-unfolding read_at_lem
+pub read_at_lem : (size : ℕ) (ts : List Token) → all_sound size ts ≡ true → (i : ℕ) → i < length ts → read_at (as_bytes ts) size i ≡ read.Token (get_or ts i no_token)
+unfolding read_at
 read_at_lem size ts h i l =
     let p = places_bytes ts in
     rw (lt-leb (places (as_bytes ts) token_size) i (omega arith), token_at_lem size ts i l h, (parts size (get_or ts i no_token) (sound_at size ts i l h)).is_good)
@@ -162,9 +162,9 @@ end_at size (t ∷ ts) h =
     rw (ne_eqb (places (as_bytes (t ∷ ts)) token_size) 0 d, q) (field_at size (t ∷ ts) (length ts) 2 (omega arith) (omega arith) h ∙ end_of (get_or (t ∷ ts) (length ts) no_token) ∙ sym (last_is t ts))
 
 -- a list of tokens as bytes is that list, and passes the first checks
-pub reads_back : (size : ℕ) (ts : List Token) → all_sound size ts ≡ true → (i : ℕ) → read_at_lem (as_bytes ts) size i ≡ read_in (last_token_end ts) ts i
+pub reads_back : (size : ℕ) (ts : List Token) → all_sound size ts ≡ true → (i : ℕ) → read_at (as_bytes ts) size i ≡ read_in (last_token_end ts) ts i
 reads_back size ts h i = go (ltb i (length ts)) refl where
-  go : (b : Bool) → ltb i (length ts) ≡ b → read_at_lem (as_bytes ts) size i ≡ read_in (last_token_end ts) ts i
+  go : (b : Bool) → ltb i (length ts) ≡ b → read_at (as_bytes ts) size i ≡ read_in (last_token_end ts) ts i
   go true e = let l = ltb-true i (length ts) e in read_at_lem size ts h i l ∙ sym (read_within (last_token_end ts) ts i l)
   go false e =
       let l = ltb-false i (length ts) e in
@@ -175,7 +175,7 @@ pub given_back : (ts : List Token) (text : List ℕ) (keep forget : Bool) → al
     → in_bytes (as_bytes ts) (length ts) text keep forget ≡ listed ts text keep forget
 unfolding in_bytes listed
 given_back ts text keep forget h =
-    let f : read_at_lem (as_bytes ts) (length text) ≡ read_in (last_token_end ts) ts = fun_ext (reads_back (length text) ts h) in
+    let f : read_at (as_bytes ts) (length text) ≡ read_in (last_token_end ts) ts = fun_ext (reads_back (length text) ts h) in
     λ i. record { count = length ts; read = f i; text = text; keep = keep; forget = forget }
 
 found_all : (size : ℕ) (ts : List Token) → all_sound size ts ≡ true → (at left : ℕ) → at + left ≡ length ts → good_run (as_bytes ts) size at left ≡ length ts

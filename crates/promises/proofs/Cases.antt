@@ -6,7 +6,7 @@ use Prim.Native.Nat.{ℕ, ◌%◌, ◌^◌}
 use lib.Dec.{leb, ltb, eqb}
 use lib.ListN.{length}
 use Rattle.places.specs.Places.{places}
-use Rattle.records.specs.Tokens.{token_size, token_at, good, last_end, refused, read_at_lem}
+use Rattle.records.specs.Tokens.{token_size, token_at, good, last_end, refused, read_at}
 use Rattle.records.specs.Checks.{most_tokens, most_text, good_run, refusing, check_records, first_checks}
 use Rattle.records.specs.Says.{Goes, Number, read_says, checked_says}
 use Rattle.records.specs.declared.tokens.Token.{Token}
@@ -29,7 +29,7 @@ pub reading : (κs : _) (a : _) (x : _) (s : _) → read-token.Learnt κs a x s
     let at = a.1.1.0 in
     cond (leb (places b token_size) at) (Number 14 (last_end b))
     (cond (good (length a.1.0.now) (token_at b at)) (Goes (token_at b at)) (Number 21 (at % 2 ^ 32))))
-unfolding read_at_lem refused
+unfolding read_at refused
 reading κs a x s k =
     rw k (go (leb (places a.0.now token_size) a.1.1.0) (good (length a.1.0.now) (token_at a.0.now a.1.1.0)) _ _ _) where
       go : (past fine : Bool) (t : Token) (end index : ℕ)

@@ -2,7 +2,7 @@
 use Rattle.std.specs.Prelude.{ℕ, ◌*◌, ◌+◌, ◌-◌, ◌<◌, ◌≤◌, ◌≡◌, Bool, ◌&&◌, ◌||◌, List, [], ◌∷◌, eqb, leb, length, get_or}
 use Rattle.places.specs.Words.{encode}
 use Rattle.places.specs.Places.{places}
-use Rattle.records.specs.Tokens.{token_size, read_at_lem}
+use Rattle.records.specs.Tokens.{token_size, read_at}
 use Rattle.records.specs.declared.tokens.Token.{Token}
 use Rattle.records.specs.declared.tokens.Read.TheVariants as read
 use Rattle.records.specs.Events.{event_size, numbers_of}
@@ -95,7 +95,7 @@ pub record Accepted (c : Call) (l : Left) (A : ℕ) : Type 0 where
   pub took : taken c ≡ A
   pub some : 1 ≤ A
   pub last : Token
-  pub found : read_at_lem c.tokens (length c.text) (A - 1) ≡ read.Token last
+  pub found : read_at c.tokens (length c.text) (A - 1) ≡ read.Token last
   pub end : last.kind ≡ STREAM_END
 
 -- the same call with no less room of any kind

@@ -17,7 +17,7 @@ use Rattle.tables.specs.Anchors as anchors
 use Rattle.tables.specs.declared.anchors.Anchor.{Anchor}
 use Rattle.tables.specs.declared.handles.Handle.{Handle}
 use Rattle.rules.specs.Rules as w
-use Rattle.rules.specs.Rules.{if◌then◌else◌, Given, Move, Change, Place, Decision, Over}
+use Rattle.rules.specs.Rules.{choose◌then◌else◌, Given, Move, Change, Place, Decision, Over}
 use Rattle.rules.specs.Run.{Rooms, room, short, limit, Model, small, fresh, Go, named, numbered, handled, after, moved, settle, step}
 use Rattle.rules.specs.Lists.{Reached, start, on}
 use Rattle.rules.specs.declared.State.{State}
@@ -49,7 +49,7 @@ data Grants (r : Rooms) (g : Given) (m : Model) : Decision → Type 0 where
 
 -- a name that is there takes no more room
 entered_hit : {A : Type 0} (p : A → Bool) (x : A) (xs : List A) → w.hit? (w.first p xs) ≡ true → length (entered p x xs) ≡ length xs
-unfolding if◌then◌else◌
+unfolding choose◌then◌else◌
 entered_hit p x xs h = rw (entered_size p x xs, h)
 
 -- one more token declared
@@ -61,8 +61,8 @@ declare_more g (suc n) at hs =
     rw (← e) (declare_more g n (suc at) (w.declare_read g (g.read at) hs))
 
 module _ (r : Rooms) (g : Given) (m : Model) (f : Fits r m) where
-  grants_if : {d e : Decision} (t : Bool) → (t ≡ true → Grants r g m d) → (t ≡ false → Grants r g m e) → Grants r g m (if t then d else e)
-  unfolding if◌then◌else◌
+  grants_if : {d e : Decision} (t : Bool) → (t ≡ true → Grants r g m d) → (t ≡ false → Grants r g m e) → Grants r g m (choose t then d else e)
+  unfolding choose◌then◌else◌
   grants_if true h k = h refl
   grants_if false h k = k refl
 
@@ -263,9 +263,9 @@ module _ (r : Rooms) (g : Given) (m : Model) (f : Fits r m) where
 
   -- a document forgets names or keeps them
   document_named : Named (w.document_names g)
-  unfolding w.document_names named if◌then◌else◌
+  unfolding w.document_names named choose◌then◌else◌
   document_named = go g.forget where
-    go : (t : Bool) → Named (if t then w.NamesForgotten else w.NamesKept)
+    go : (t : Bool) → Named (choose t then w.NamesForgotten else w.NamesKept)
     go true = omega arith
     go false = f.anchors
 
@@ -280,7 +280,7 @@ module _ (r : Rooms) (g : Given) (m : Model) (f : Fits r m) where
 
   declared_on : (from at : ℕ) (t : Token) → from ≤ at → g.read at ≡ read.Token t → w.is t w.TAG_DIRECTIVE ≡ false → Declared from at
       → Declared from (suc at)
-  unfolding w.declare_read if◌then◌else◌
+  unfolding w.declare_read choose◌then◌else◌
   declared_on from at t l e i h =
       let q : suc at - from ≡ suc (at - from) = omega arith in
       let k : from + (at - from) ≡ at = omega arith in
@@ -322,8 +322,8 @@ module _ (r : Rooms) (g : Given) (m : Model) (f : Fits r m) where
       λ e. grants_if _ (λ e. grants_document _ _ _ _ _ f.handles)
       λ e. grants_explicit _
 
-  cleared_tags : (t : Bool) → length (handled g m (if t then w.TagsKept else w.TagsForgotten)) ≤ r.handles
-  unfolding handled if◌then◌else◌
+  cleared_tags : (t : Bool) → length (handled g m (choose t then w.TagsKept else w.TagsForgotten)) ≤ r.handles
+  unfolding handled choose◌then◌else◌
   cleared_tags true = f.handles
   cleared_tags false = omega arith
 
@@ -369,11 +369,11 @@ module _ (r : Rooms) (g : Given) (m : Model) (f : Fits r m) where
   grants_machine s.End = ended
 
   grants_limit : {d : Decision} {c : Change} → Grants r g m d → limit r d ≡ w.Next c → Granted r g m c
-  unfolding limit if◌then◌else◌
+  unfolding limit choose◌then◌else◌
   grants_limit (refused n p) e = let z : ◌≡◌ {A = ℕ} 0 1 = cc in absurd (omega arith)
   grants_limit ended e = let z : ◌≡◌ {A = ℕ} 0 1 = cc in absurd (omega arith)
   grants_limit {c = c} (wants p n {d = d} h) e = go (leb n (room r p)) refl e (λ i. grants_limit (h i)) where
-    go : (t : Bool) → leb n (room r p) ≡ t → (if t then limit r d else w.Refused (short p) 0) ≡ w.Next c
+    go : (t : Bool) → leb n (room r p) ≡ t → (choose t then limit r d else w.Refused (short p) 0) ≡ w.Next c
         → (n ≤ room r p → limit r d ≡ w.Next c → Granted r g m c) → Granted r g m c
     go true q e k = k (leb-true n (room r p) q) e
     go false q e k = let z : ◌≡◌ {A = ℕ} 0 1 = cc in absurd (omega arith)

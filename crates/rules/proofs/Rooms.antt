@@ -11,10 +11,10 @@ use lib.Dec.{leb}
 use lib.ListN.{length}
 use Rattle.records.specs.declared.events.Event.{Event}
 use Rattle.rules.specs.Rules as w
-use Rattle.rules.specs.Rules.{if◌then◌else◌, Given, Place, Decision, Refused, Hit, Miss, Got, first}
+use Rattle.rules.specs.Rules.{choose◌then◌else◌, Given, Place, Decision, Refused, Hit, Miss, Got, first}
 use Rattle.rules.specs.Run.{Rooms, room, limit, Model, fresh, Step, Go, Halt, Stuck, settle, step, Outcome, stop, store, ended, onward, run}
 use Rattle.rules.specs.Lists.{Listed}
-use Rattle.rules.specs.Needs as goal
+use Rattle.rules.specs.Needs as need
 use Rattle.rules.specs.Needs.{Need, Work, Store, lacks, lacked, granted, wanted, decided, free_step, later, needs, all_needs, Fits, peaks, enough, ample, Begins, Cut, same, cut, Short, Wider}
 use Rattle.rules.proofs.NeverStuck.{short_range}
 use Rattle.rules.proofs.Bounds.{places_suffice}
@@ -25,7 +25,7 @@ data Judged (r : Rooms) (n : ℕ) (d : Decision) (after : List Need) : Type 0 wh
   unmet : (x : Need) → limit r d ≡ Refused (lacked x) 0 → first (lacks r n) (wanted d after) ≡ Got x → Judged r n d after
 
 judge : (r : Rooms) (n : ℕ) (d : Decision) (after : List Need) → Judged r n d after
-unfolding limit granted wanted first lacks lacked if◌then◌else◌
+unfolding limit granted wanted first lacks lacked choose◌then◌else◌
 judge r n (w.Next c) after = met refl refl
 judge r n (w.Refused number place) after = met refl refl
 judge r n w.Unreachable after = met refl refl
@@ -38,7 +38,7 @@ judge r n (w.Wants p k d) after = go (leb k (room r p)) refl (judge r n d after)
 -- the run that lacks no place in the work memory
 unfoldable free_run : Given → ℕ → Model → Outcome
 free_run g zero m = onward m (free_step g m) λ e m'. stop m 22 0
-free_run g (suc n) m = onward m (free_step g m) λ e m'. store e (if ended m'.state then stop m' 0 0 else free_run g n m')
+free_run g (suc n) m = onward m (free_step g m) λ e m'. store e (choose ended m'.state then stop m' 0 0 else free_run g n m')
 
 cut_stop : (m : Model) (x : Need) (whole : Outcome) → Cut (stop m (lacked x) 0) whole (Got x)
 unfolding stop
@@ -57,7 +57,7 @@ module _ (g : Given) where
 
   whole_on : (N : ℕ) (m m' : Model) (ev : Event) → free_step g m ≡ Go ev m' → ended m'.state ≡ false
       → (free_run g (suc N) m).number ≡ (free_run g N m').number
-  unfolding free_run onward store if◌then◌else◌
+  unfolding free_run onward store choose◌then◌else◌
   whole_on N m m' ev s f = rw (s, f)
 
 module _ (r : Rooms) (g : Given) (lim : ℕ) where
@@ -79,11 +79,11 @@ module _ (r : Rooms) (g : Given) (lim : ℕ) where
 
   -- there is no place for the event, or there is one
   no_store : (e : ℕ) (after : List Need) → lim ≡ e → first (lacks r lim) (Store (suc e) ∷ after) ≡ Got (Store (suc e))
-  unfolding first lacks if◌then◌else◌
+  unfolding first lacks choose◌then◌else◌
   no_store e after q = rw (lt-ltb lim (suc e) (omega arith))
 
   stored : (e : ℕ) (after : List Need) → e < lim → first (lacks r lim) (Store (suc e) ∷ after) ≡ first (lacks r lim) after
-  unfolding first lacks if◌then◌else◌
+  unfolding first lacks choose◌then◌else◌
   stored e after q = rw (le-ltb lim (suc e) q)
 
   cut_full : (m : Model) (e : ℕ) (after : List Need) (whole : Outcome) → lim ≡ e
@@ -93,8 +93,8 @@ module _ (r : Rooms) (g : Given) (lim : ℕ) where
 
   cut_rest : (n N e : ℕ) (m : Model) (t : Bool)
       → (t ≡ false → Cut (run r g n m) (free_run g N m) (first (lacks r lim) (needs g N (suc e) m)))
-      → Cut (if t then stop m 0 0 else run r g n m) (if t then stop m 0 0 else free_run g N m) (first (lacks r lim) (if t then [] else needs g N (suc e) m))
-  unfolding if◌then◌else◌ first
+      → Cut (choose t then stop m 0 0 else run r g n m) (choose t then stop m 0 0 else free_run g N m) (first (lacks r lim) (choose t then [] else needs g N (suc e) m))
+  unfolding choose◌then◌else◌ first
   cut_rest n N e m true h = same refl
   cut_rest n N e m false h = h refl
 
@@ -105,7 +105,7 @@ module _ (r : Rooms) (g : Given) (lim : ℕ) where
   cut_run zero (suc N) e m q i = cut_onward m _ _ _ λ ev m' s. cut_full m e _ _ (omega arith)
   cut_run (suc n) zero e m q i = cut_onward m _ _ _ λ ev m' s. absurd (omega (arith, i (whole_22 g m m' ev s)))
   cut_run (suc n) (suc N) e m q i = cut_onward m _ _ _ λ ev m' s.
-      rw (stored e (if ended m'.state then [] else needs g N (suc e) m') (omega arith))
+      rw (stored e (choose ended m'.state then [] else needs g N (suc e) m') (omega arith))
       (cut_store ev (cut_rest n N e m' (ended m'.state) λ f.
       cut_run n N (suc e) m' (omega arith) (λ p. omega (arith, i (whole_on g N m m' ev s f ∙ p)))))
 
@@ -116,22 +116,22 @@ lacked-short (Store k) = omega arith
 
 -- the first need that is not met, and the most that is needed
 module _ (r : Rooms) (n : ℕ) where
-  fits_on : (x : Need) (p : goal.Peaks) → lacks r n x ≡ false → Fits r n p → Fits r n (goal.raise x p)
-  unfolding lacks goal.raise room
+  fits_on : (x : Need) (p : need.Peaks) → lacks r n x ≡ false → Fits r n p → Fits r n (need.raise x p)
+  unfolding lacks need.raise room
   fits_on (Store k) p e f = omega (arith, ltb-false n k e)
   fits_on (Work w.OpenPlace k) p e f = omega (arith, ltb-false r.opens k e)
   fits_on (Work w.AnchorPlace k) p e f = omega (arith, ltb-false r.anchors k e)
   fits_on (Work w.HandlePlace k) p e f = omega (arith, ltb-false r.handles k e)
 
-  fits_rest : (x : Need) (p : goal.Peaks) → Fits r n (goal.raise x p) → Fits r n p
-  unfolding goal.raise
+  fits_rest : (x : Need) (p : need.Peaks) → Fits r n (need.raise x p) → Fits r n p
+  unfolding need.raise
   fits_rest (Store k) p f = omega arith
   fits_rest (Work w.OpenPlace k) p f = omega arith
   fits_rest (Work w.AnchorPlace k) p f = omega arith
   fits_rest (Work w.HandlePlace k) p f = omega arith
 
-  fits_not : (x : Need) (p : goal.Peaks) → lacks r n x ≡ true → Fits r n (goal.raise x p) → ⊥
-  unfolding lacks goal.raise room
+  fits_not : (x : Need) (p : need.Peaks) → lacks r n x ≡ true → Fits r n (need.raise x p) → ⊥
+  unfolding lacks need.raise room
   fits_not (Store k) p e f = omega (arith, ltb-true n k e)
   fits_not (Work w.OpenPlace k) p e f = omega (arith, ltb-true r.opens k e)
   fits_not (Work w.AnchorPlace k) p e f = omega (arith, ltb-true r.anchors k e)
@@ -142,7 +142,7 @@ module _ (r : Rooms) (n : ℕ) where
     over : (x : Need) → first (lacks r n) xs ≡ Got x → (Fits r n (peaks xs) → ⊥) → Sought xs
 
   seek : (xs : List Need) → Sought xs
-  unfolding first if◌then◌else◌ peaks
+  unfolding first choose◌then◌else◌ peaks
   seek [] = fit refl (omega arith)
   seek (x ∷ xs) = go (lacks r n x) refl (seek xs) where
     go : (t : Bool) → lacks r n x ≡ t → Sought xs → Sought (x ∷ xs)
@@ -174,7 +174,7 @@ begins (cut x q p b) = b
 
 -- the most events that are needed are those of the run, unless they were too many
 wanted_events : (d : Decision) (xs : List Need) → (peaks (wanted d xs)).events ≡ (peaks xs).events
-unfolding wanted peaks goal.raise
+unfolding wanted peaks need.raise
 wanted_events (w.Next c) xs = refl
 wanted_events (w.Refused number place) xs = refl
 wanted_events w.Unreachable xs = refl
@@ -193,14 +193,14 @@ module _ (g : Given) where
 
   events_peak : (N e : ℕ) (m : Model) → ((free_run g N m).number ≡ 22 → ⊥)
       → max e (peaks (needs g N e m)).events ≡ e + length (free_run g N m).events
-  unfolding needs free_run peaks goal.raise store stop if◌then◌else◌
+  unfolding needs free_run peaks need.raise store stop choose◌then◌else◌
   events_peak zero e m i = rw (wanted_events (decided g m)) (events_later e m (free_step g m) _ _ λ ev m' q. absurd (i (whole_22 g m m' ev q)))
   events_peak (suc N) e m i = rw (wanted_events (decided g m)) (events_later e m (free_step g m) _ _ λ ev m' q.
       go m' ev (ended m'.state) refl (λ f. events_peak N (suc e) m' (λ p. i (whole_on g N m m' ev q f ∙ p))))
     where
       go : (m' : Model) (ev : Event) (t : Bool) → ended m'.state ≡ t
           → (ended m'.state ≡ false → max (suc e) (peaks (needs g N (suc e) m')).events ≡ suc e + length (free_run g N m').events)
-          → max e (peaks (Store (suc e) ∷ (if t then [] else needs g N (suc e) m'))).events ≡ e + length (store ev (if t then stop m' 0 0 else free_run g N m')).events
+          → max e (peaks (Store (suc e) ∷ (choose t then [] else needs g N (suc e) m'))).events ≡ e + length (store ev (choose t then stop m' 0 0 else free_run g N m')).events
       go m' ev true q h = omega arith
       go m' ev false q h = omega (arith, h q)
 
@@ -268,7 +268,7 @@ more_room r r' g n n' h i s = go
     (verdict r n (needs g n' 0 fresh) (cut_run r g n n n' 0 fresh (omega arith) (λ q. i)))
     (verdict r' n' (needs g n' 0 fresh) (cut_run r' g n' n' n' 0 fresh (omega arith) (λ q. omega arith)))
   where
-    go : {whole : Outcome} {p : goal.Peaks} → Verdict (run r g n fresh) whole (Fits r n p)
+    go : {whole : Outcome} {p : need.Peaks} → Verdict (run r g n fresh) whole (Fits r n p)
         → Verdict (run r' g n' fresh) whole (Fits r' n' p)
         → run r' g n' fresh ≡ run r g n fresh
     go (exceeds f e) v = absurd (s e)

@@ -6,7 +6,7 @@ use native.Mathlib.Omega.{arith}
 use lib.ListN.{length}
 use Rattle.records.specs.declared.events.Event.{Event}
 use Rattle.rules.specs.States.{numbers, ranked}
-use Rattle.rules.specs.Rules.{if◌then◌else◌, Given}
+use Rattle.rules.specs.Rules.{choose◌then◌else◌, Given}
 use Rattle.rules.specs.Run.{Rooms, Model, fresh, Step, Go, Halt, Stuck, step, Outcome, stop, store, ended, STUCK, onward, run}
 use Rattle.rules.specs.Lists.{Reached, start, on}
 
@@ -55,14 +55,14 @@ module _ (r : Rooms) (g : Given) (lim : ℕ) where
   ran_onward m Stuck f q b h n i = ran_stop m STUCK 0 b h (sticks n q)
 
   pub run_ran : (n k : ℕ) (m : Model) → n + k ≡ lim → Reached r g k m → ended m.state ≡ false → Ran r g lim k (run r g n m)
-  unfolding run if◌then◌else◌
+  unfolding run choose◌then◌else◌
   run_ran zero k m q h n = ran_onward m (step r g m) _ refl (omega arith) h n λ e m' p. ran_stop m 22 0 (omega arith) h (fills e m' n p (omega arith))
   run_ran (suc i) k m q h n = ran_onward m (step r g m) _ refl (omega arith) h n λ e m' p. ran_store e _
       (go m' (on e h n p) (ended m'.state) refl (run_ran i (suc k) m' (omega arith)))
     where
       go : (m' : Model) → Reached r g (suc k) m' → (t : Bool) → ended m'.state ≡ t
           → (Reached r g (suc k) m' → ended m'.state ≡ false → Ran r g lim (suc k) (run r g i m'))
-          → Ran r g lim (suc k) (if t then stop m' 0 0 else run r g i m')
+          → Ran r g lim (suc k) (choose t then stop m' 0 0 else run r g i m')
       go m' h' true e f = ran_stop m' 0 0 (omega arith) h' (accepts e)
       go m' h' false e f = f h' e
 

@@ -8,7 +8,7 @@ use borrow.Author.Tests.{leb-false}
 use lib.Dec.{T, leb}
 use lib.ListN.{length}
 use Rattle.records.specs.declared.events.Event.{Event}
-use Rattle.rules.specs.Rules.{if◌then◌else◌, Given, Change, Move, Stay, Push, Pop, Place, Decision, Refused}
+use Rattle.rules.specs.Rules.{choose◌then◌else◌, Given, Change, Move, Stay, Push, Pop, Place, Decision, Refused}
 use Rattle.rules.specs.Run.{Rooms, room, short, limit, Model, small, fresh, Step, Go, Halt, named, handled, after, moved, settle, step, ended}
 use Rattle.rules.specs.Lists.{Listed, Reached, start, on}
 use Rattle.rules.specs.declared.State.{State}
@@ -103,11 +103,11 @@ module _ {r : Rooms} {g : Given} (l : Listed g) {e : ℕ} (m : Model) where
   kept_limit : {d : Decision}
       → Fair l (small m) ((weigh m.state).pays (value_at l m.at)) (weigh m.state).rises (weigh m.state).level d
       → Sound l e m → Kept r l e (settle g m (limit r d))
-  unfolding settle limit if◌then◌else◌ small
+  unfolding settle limit choose◌then◌else◌ small
   kept_limit (refused n p k) h = halted n p k
   kept_limit (wants p n {d = d} k f) h = go (leb n (room r p)) refl (kept_limit f h) where
     go : (t : Bool) → leb n (room r p) ≡ t → Kept r l e (settle g m (limit r d))
-        → Kept r l e (settle g m (if t then limit r d else Refused (short p) 0))
+        → Kept r l e (settle g m (choose t then limit r d else Refused (short p) 0))
     go true q i = i
     go false q i = lacks p (omega (arith, leb-false n (room r p) q))
   kept_limit (next c f) h = kept_moved c c.move m.stack f h

@@ -10,7 +10,7 @@ use Rattle.records.specs.declared.tokens.Token.{Token}
 use Rattle.records.specs.declared.events.Event.{Event}
 use Rattle.rules.specs.States.{numbers, ranked}
 use Rattle.rules.specs.Rules as w
-use Rattle.rules.specs.Rules.{if◌then◌else◌, Given, Small, Move, Decision}
+use Rattle.rules.specs.Rules.{choose◌then◌else◌, Given, Small, Move, Decision}
 use Rattle.rules.specs.Run.{ended}
 use Rattle.rules.specs.Lists.{Listed}
 use Rattle.rules.specs.declared.State.{State}
@@ -58,14 +58,14 @@ put_le (w.NamePut r) = omega arith
 put_le w.NamesForgotten = omega arith
 
 put_document : (g : Given) → put (w.document_names g) ≡ 0
-unfolding w.document_names if◌then◌else◌
+unfolding w.document_names choose◌then◌else◌
 put_document g = go g.forget where
-  go : (t : Bool) → put (if t then w.NamesForgotten else w.NamesKept) ≡ 0
+  go : (t : Bool) → put (choose t then w.NamesForgotten else w.NamesKept) ≡ 0
   go true = refl
   go false = refl
 
-told-cleared : (t : Bool) → told (if t then w.TagsKept else w.TagsForgotten) ≡ 0
-unfolding if◌then◌else◌
+told-cleared : (t : Bool) → told (choose t then w.TagsKept else w.TagsForgotten) ≡ 0
+unfolding choose◌then◌else◌
 told-cleared true = refl
 told-cleared false = refl
 
@@ -255,7 +255,7 @@ module _ {g : Given} (l : Listed g) (m : Small) where
         λ e. fair_parse_node u _ _ _ _ (omega arith)
 
   fair_empty_value : Fair l m 4 0 1 (w.flow_mapping_value g m true)
-  unfolding w.flow_mapping_value if◌then◌else◌
+  unfolding w.flow_mapping_value choose◌then◌else◌
   fair_empty_value = each_look l _ _ λ h. fair_give _ _ _ (omega arith)
 
   fair_pair_key : Held m 1 → Fair l m 5 1 1 (w.flow_sequence_entry_mapping_key g m)

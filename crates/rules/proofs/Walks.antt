@@ -9,7 +9,7 @@ use lib.Dec.{leb, ltb, eqb}
 use lib.ListN.{length}
 use Rattle.records.specs.declared.events.Event.{Event}
 use Rattle.rules.specs.States.{numbers, ranked}
-use Rattle.rules.specs.Rules.{if◌then◌else◌, Given, Change, Move, Stay, Push, Pop, Decision, Refused}
+use Rattle.rules.specs.Rules.{choose◌then◌else◌, Given, Change, Move, Stay, Push, Pop, Decision, Refused}
 use Rattle.rules.specs.Run.{Rooms, room, short, limit, Model, small, fresh, Step, Go, Halt, Stuck, after, moved, settle, step, Outcome, stop, store, ended, onward, run}
 use Rattle.rules.specs.Lists as lists
 use Rattle.rules.specs.Lists.{Listed, Reached}
@@ -61,11 +61,11 @@ module _ (r : Rooms) {g : Given} (l : Listed g) where
 
     onto_limit : {d : Decision} → Walks m.state d → Stands m.state m.stack → Return m.stack
         → Onto (stand m) (settle g m (limit r d))
-    unfolding settle limit if◌then◌else◌
+    unfolding settle limit choose◌then◌else◌
     onto_limit (refused n p x) b i = halts n p
     onto_limit (wants p n {d = d} x h) b i = go (leb n (room r p)) (onto_limit h b i) where
       go : (t : Bool) → Onto (stand m) (settle g m (limit r d))
-          → Onto (stand m) (settle g m (if t then limit r d else Refused (short p) 0))
+          → Onto (stand m) (settle g m (choose t then limit r d else Refused (short p) 0))
       go true o = o
       go false o = halts _ _
     onto_limit (next c h) b i = onto_moved c c.move m.stack h b i
@@ -92,7 +92,7 @@ module _ (r : Rooms) {g : Given} (l : Listed g) where
   reaches_store m m' e o h j = k.on h j
 
   reaches_run : (n i : ℕ) (m : Model) → Reached r g i m → Return m.stack → ended m.state ≡ false → Reaches m (run r g n m)
-  unfolding run step if◌then◌else◌
+  unfolding run step choose◌then◌else◌
   reaches_run zero i m h b a =
       reaches_onward m _ (onto_limit m (walks_machine l (small m) m.state a) (reached_sound l h).stands b) refl λ e m' q x y. reaches_stop m 22 0
   reaches_run (suc n) i m h b a =
@@ -100,7 +100,7 @@ module _ (r : Rooms) {g : Given} (l : Listed g) where
       reaches_store m m' e _ x (go m' (ended m'.state) refl (reaches_run n (suc i) m' (lists.on e h a q) y))
     where
       go : (m' : Model) (t : Bool) → ended m'.state ≡ t → (ended m'.state ≡ false → Reaches m' (run r g n m'))
-          → Reaches m' (if t then stop m' 0 0 else run r g n m')
+          → Reaches m' (choose t then stop m' 0 0 else run r g n m')
       go m' true q f = reaches_stop m' 0 0
       go m' false q f = f q
 

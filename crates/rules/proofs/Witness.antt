@@ -13,7 +13,7 @@ use Rattle.records.specs.declared.tokens.Read.TheVariants as read
 use Rattle.records.specs.declared.events.Event.{Event}
 use Rattle.rules.specs.States.{numbers, ranked}
 use Rattle.rules.specs.Rules as w
-use Rattle.rules.specs.Rules.{if◌then◌else◌, Given, Small, Decision}
+use Rattle.rules.specs.Rules.{choose◌then◌else◌, Given, Small, Decision}
 use Rattle.rules.specs.Run.{Rooms, room, limit, Model, small, fresh, named, numbered, handled, Go, after, moved, settle, step, Outcome, stop, store, ended, onward, run}
 use Rattle.rules.specs.Lists.{read_in, listed}
 use Rattle.rules.specs.Starred.{bare}
@@ -32,27 +32,27 @@ look_is g at k e = rw e
 
 past_none : (g : Given) (at : ℕ) {t : Token} (ks : List ℕ) (n : ℕ) → g.read at ≡ read.Token t → w.among t ks ≡ false
     → w.past g ks n at ≡ at
-unfolding w.past w.passes if◌then◌else◌
+unfolding w.past w.passes choose◌then◌else◌
 past_none g at ks zero e q = refl
 past_none g at ks (suc n) e q = rw (e, q)
 
 module _ (g : Given) (m : Small) where
   no_directives : (from n : ℕ) (version : Bool) (k : ℕ → Decision) → g.read m.at ≡ read.Token (bare w.DOCUMENT_START 0 0)
       → w.parser_process_directives g m from n m.at version k ≡ k m.at
-  unfolding w.parser_process_directives if◌then◌else◌ w.is bare
+  unfolding w.parser_process_directives choose◌then◌else◌ w.is bare
   no_directives from zero version k e = refl
   no_directives from (suc n) version k e = look_is g m.at _ e
 
   -- a document's content is missing where one of them comes, and the document ends there
   content_missing : {t : Token} → Border t → g.read m.at ≡ read.Token t
       → w.document_content g m ≡ w.give m.at w.Pop (w.plain 6 0 0 0)
-  unfolding w.document_content w.empty_scalar if◌then◌else◌ w.among w.one_of bare
+  unfolding w.document_content w.empty_scalar choose◌then◌else◌ w.among w.one_of bare
   content_missing start e = look_is g m.at _ e
   content_missing end e = look_is g m.at _ e
 
   document_over : {t : Token} → Border t → g.read m.at ≡ read.Token t
       → w.document_end g m ≡ w.document_ends g m.at (bare w.DOCUMENT_START 0 0) s.DocumentStart
-  unfolding w.document_end w.document_end_at w.document_ends if◌then◌else◌ w.is w.among w.one_of bare
+  unfolding w.document_end w.document_end_at w.document_ends choose◌then◌else◌ w.is w.among w.one_of bare
   document_over start e = look_is g m.at _ e ∙ look_is g m.at _ e
   document_over end e = look_is g m.at _ e ∙ look_is g m.at _ e
 
@@ -64,30 +64,30 @@ module _ (g : Given) (m : Small) where
 
   document_opened : (implicit : Bool) → g.read m.at ≡ read.Token (bare w.DOCUMENT_START 0 0)
       → w.document_start g m implicit ≡ w.document g m (suc m.at) (bare w.DOCUMENT_START 0 0) 1 s.DocumentContent (w.TagsDeclared m.at m.at)
-  unfolding w.document_start_at w.explicit_document_start w.after_directives if◌then◌else◌ w.is w.among w.one_of bare
+  unfolding w.document_start_at w.explicit_document_start w.after_directives choose◌then◌else◌ w.is w.among w.one_of bare
   document_opened implicit e = outer start e implicit ∙ look_is g m.at _ e ∙ no_directives m.at _ false _ e ∙ look_is g m.at _ e
 
   stream_ended : (implicit : Bool) → g.read m.at ≡ read.Token (bare w.STREAM_END 0 0)
       → w.document_start g m implicit ≡ w.give (suc m.at) (w.Stay s.End) (w.plain 2 0 0 0)
-  unfolding w.document_start_at if◌then◌else◌ w.is bare
+  unfolding w.document_start_at choose◌then◌else◌ w.is bare
   stream_ended implicit e = outer end e implicit ∙ look_is g m.at _ e
 
 -- a machine with nothing in its tables, behind the token i
 unfoldable machine : State → ℕ → List State → Model
 machine state i stack = record { state = state; at = suc i; stack = stack; anchors = []; handles = []; next = 1 }
 
-no_names : (g : Given) (m : Model) (t : Bool) → m.anchors ≡ [] → named g m (if t then w.NamesForgotten else w.NamesKept) ≡ []
-unfolding named if◌then◌else◌
+no_names : (g : Given) (m : Model) (t : Bool) → m.anchors ≡ [] → named g m (choose t then w.NamesForgotten else w.NamesKept) ≡ []
+unfolding named choose◌then◌else◌
 no_names g m true e = refl
 no_names g m false e = e
 
-no_number : (n : ℕ) (t : Bool) → numbered n (if t then w.NamesForgotten else w.NamesKept) ≡ n
-unfolding numbered if◌then◌else◌
+no_number : (n : ℕ) (t : Bool) → numbered n (choose t then w.NamesForgotten else w.NamesKept) ≡ n
+unfolding numbered choose◌then◌else◌
 no_number n true = refl
 no_number n false = refl
 
-no_tags : (g : Given) (m : Model) (t : Bool) → m.handles ≡ [] → handled g m (if t then w.TagsKept else w.TagsForgotten) ≡ []
-unfolding handled if◌then◌else◌
+no_tags : (g : Given) (m : Model) (t : Bool) → m.handles ≡ [] → handled g m (choose t then w.TagsKept else w.TagsForgotten) ≡ []
+unfolding handled choose◌then◌else◌
 no_tags g m true e = e
 no_tags g m false e = refl
 
@@ -106,7 +106,7 @@ module _ (r : Rooms) (g : Given) where
   opened : (i : ℕ) {state : State} {implicit : Bool} → Outer state implicit → 0 < r.opens
       → g.read (suc i) ≡ read.Token (bare w.DOCUMENT_START 0 0)
       → step r g (machine state i []) ≡ Go (w.plain 3 0 0 1) (machine s.DocumentContent (suc i) (s.DocumentEnd ∷ []))
-  unfolding step limit settle moved after handled w.declare machine room small w.document w.push_state w.document_names if◌then◌else◌ bare
+  unfolding step limit settle moved after handled w.declare machine room small w.document w.push_state w.document_names choose◌then◌else◌ bare
   opened i {state} {implicit} o h e =
       let m = machine state i [] in
       rw (outer_machine g (small m) o, document_opened g (small m) implicit e, le-leb 1 r.opens h, no_names g m g.forget refl, no_number 1 g.forget, sub_self (suc i))
@@ -133,12 +133,12 @@ module _ (r : Rooms) (g : Given) where
 
   run_go : (n : ℕ) (m m' : Model) (e : Event) → step r g m ≡ Go e m' → ended m'.state ≡ false
       → run r g (suc n) m ≡ store e (run r g n m')
-  unfolding run onward if◌then◌else◌
+  unfolding run onward choose◌then◌else◌
   run_go n m m' e q f = rw (q, f)
 
   run_end : (n : ℕ) (m m' : Model) (e : Event) → step r g m ≡ Go e m' → ended m'.state ≡ true
       → run r g (suc n) m ≡ store e (stop m' 0 0)
-  unfolding run onward if◌then◌else◌
+  unfolding run onward choose◌then◌else◌
   run_end n m m' e q f = rw (q, f)
 
 ends_store : (e : Event) {o : Outcome} {c d : ℕ} → Ends o c → d ≡ suc c → Ends (store e o) d
@@ -211,7 +211,7 @@ documents-length A h = omega (arith, starts-length (A - 2))
 
 started : (r : Rooms) (g : Given) → g.read 0 ≡ read.Token (bare w.STREAM_START 0 0)
     → step r g fresh ≡ Go (w.plain 1 0 0 0) (machine s.ImplicitDocumentStart 0 [])
-unfolding step limit settle moved after named numbered handled machine small fresh w.state_machine w.stream_start w.give if◌then◌else◌ w.is bare
+unfolding step limit settle moved after named numbered handled machine small fresh w.state_machine w.stream_start w.give choose◌then◌else◌ w.is bare
 started r g e = rw (look_is g 0 _ e)
 
 -- exactly 3A - 4 events, with room for them and for one open state

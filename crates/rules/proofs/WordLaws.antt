@@ -10,7 +10,7 @@ use lib.ListN.{length}
 use Rattle.records.specs.declared.tokens.Token.{Token}
 use Rattle.tables.specs.declared.anchors.Anchor.{Anchor}
 use Rattle.rules.specs.Rules as w
-use Rattle.rules.specs.Rules.{if◌then◌else◌, Given, Small, Change, Place, Decision, Next, Refused, Wants}
+use Rattle.rules.specs.Rules.{choose◌then◌else◌, Given, Small, Change, Place, Decision, Next, Refused, Wants}
 use Rattle.rules.specs.Lists.{Listed}
 use Rattle.rules.proofs.ListLaws.{look_within, look_past}
 
@@ -30,16 +30,16 @@ taken true = 1
 taken false = 0
 
 pub past-le : (g : Given) (ks : List ℕ) (n at : ℕ) → at ≤ w.past g ks n at
-unfolding w.past if◌then◌else◌
+unfolding w.past choose◌then◌else◌
 past-le g ks zero at = omega arith
 past-le g ks (suc n) at = go (w.passes ks (g.read at)) (past-le g ks n (suc at)) where
-  go : (t : Bool) → suc at ≤ w.past g ks n (suc at) → at ≤ (if t then w.past g ks n (suc at) else at)
+  go : (t : Bool) → suc at ≤ w.past g ks n (suc at) → at ≤ (choose t then w.past g ks n (suc at) else at)
   go true h = omega arith
   go false h = omega arith
 
 module _ {W : Place → ℕ → Type 0} {N : Change → Type 0} where
-  pub each_if : {d e : Decision} (t : Bool) → (t ≡ true → Each W N d) → (t ≡ false → Each W N e) → Each W N (if t then d else e)
-  unfolding if◌then◌else◌
+  pub each_if : {d e : Decision} (t : Bool) → (t ≡ true → Each W N d) → (t ≡ false → Each W N e) → Each W N (choose t then d else e)
+  unfolding choose◌then◌else◌
   each_if true h k = h refl
   each_if false h k = k refl
 
@@ -111,9 +111,9 @@ module _ {W : Place → ℕ → Type 0} {N : Change → Type 0} where
           each_look _ _ λ i. each_if _
           (λ e. each_alias _ _ _ _ λ x. a _ _ _ i)
           λ e. each_if _
-          (λ e. each_register g m _ (f i) (each_look _ _ λ j. each_if _
-          (λ e. each_tag g m _ _ _ λ q. each_look _ _ λ j. h _ q _ (omega arith) j)
-          (λ e. h _ _ _ (omega arith) j)))
+          (λ e. each_register g m (l.token at) (f i) (each_look _ _ λ j. each_if _
+          (λ e. each_tag g m _ _ _ λ q. each_look _ _ λ j. h (suc (suc at)) q _ (omega arith) j)
+          (λ e. h (suc at) _ _ (omega arith) j)))
           λ e. each_if _
           (λ e. each_tag g m _ _ _ λ q. each_look _ _ λ j. each_if _
           (λ e. each_register g m _ (f i) (each_look _ _ λ j. h _ _ _ (omega arith) j))

@@ -2,7 +2,7 @@
 -- to where one is.
 use Rattle.std.specs.Prelude.{◌≡◌, ℕ, zero, suc, ◌*◌, ◌≤◌, max, Bool, List, [], ◌∷◌, ◌++◌, ltb}
 use Rattle.records.specs.declared.events.Event.{Event}
-use Rattle.rules.specs.Rules.{if◌then◌else◌, Given, Place, OpenPlace, AnchorPlace, HandlePlace, Decision, Next, Refused, Unreachable, Wants, state_machine, Hit, Miss, Got}
+use Rattle.rules.specs.Rules.{choose◌then◌else◌, Given, Place, OpenPlace, AnchorPlace, HandlePlace, Decision, Next, Refused, Unreachable, Wants, state_machine, Hit, Miss, Got}
 use Rattle.rules.specs.Run.{Rooms, room, short, Model, small, fresh, Step, Go, Halt, Stuck, settle, Outcome, ended, run}
 
 -- from here on n places of a kind are in use, or n events are stored
@@ -47,7 +47,7 @@ later Stuck k = []
 unfoldable pub needs : Given → ℕ → ℕ → Model → List Need
 needs g zero e m = wanted (decided g m) (later (free_step g m) λ m'. Store (suc e) ∷ [])
 needs g (suc n) e m =
-    wanted (decided g m) (later (free_step g m) λ m'. Store (suc e) ∷ (if ended m'.state then [] else needs g n (suc e) m'))
+    wanted (decided g m) (later (free_step g m) λ m'. Store (suc e) ∷ (choose ended m'.state then [] else needs g n (suc e) m'))
 
 unfoldable pub all_needs : Given → List Need
 all_needs g = needs g (3 * g.count) 0 fresh

@@ -34,7 +34,7 @@ into (Above p) s = Push p s
 
 unfoldable pub stream_start : Given → Small → Decision
 stream_start g m = look g m.at λ t.
-    if is t STREAM_START then give (suc m.at) (Stay s.ImplicitDocumentStart) (plain 1 t.start t.end 0)
+    choose is t STREAM_START then give (suc m.at) (Stay s.ImplicitDocumentStart) (plain 1 t.start t.end 0)
     else Refused 1 t.start
 
 -- a token of one of these kinds
@@ -45,13 +45,13 @@ passes ks (read.Refused r) = false
 -- the first place from `at` on, in the n next ones, that has no token of these kinds
 unfoldable pub past : Given → List ℕ → ℕ → ℕ → ℕ
 past g ks zero at = at
-past g ks (suc n) at = if passes ks (g.read at) then past g ks n (suc at) else at
+past g ks (suc n) at = choose passes ks (g.read at) then past g ks n (suc at) else at
 
 -- the handle of a TagDirective put into a table
 unfoldable pub declare_read : Given → Read → List Handle → List Handle
 declare_read g (read.Refused r) hs = hs
 declare_read g (read.Token t) hs =
-    if is t TAG_DIRECTIVE then entered (handles.named g.text t.a) (record { name = t.a; prefix = t.b }) hs else hs
+    choose is t TAG_DIRECTIVE then entered (handles.named g.text t.a) (record { name = t.a; prefix = t.b }) hs else hs
 
 -- those of the n tokens from `at` on
 unfoldable pub declare : Given → ℕ → ℕ → List Handle → List Handle
@@ -61,22 +61,22 @@ declare g (suc n) at hs = declare g n (suc at) (declare_read g (g.read at) hs)
 -- a tag directive at `at`, behind this document's own from `from` on
 unfoldable pub tag_directive : Given → Small → ℕ → ℕ → Token → Decision → Decision
 tag_directive g m from at t d =
-    if hit? (first (handles.named g.text t.a) (declare g (at - from) from [])) then Refused 4 t.start
+    choose hit? (first (handles.named g.text t.a) (declare g (at - from) from [])) then Refused 4 t.start
     else Wants HandlePlace (length (declare g (suc at - from) from m.handles)) d
 
 -- the directives from `at` on, in the n next tokens; k goes on where they end
 unfoldable pub parser_process_directives : Given → Small → ℕ → ℕ → ℕ → Bool → (ℕ → Decision) → Decision
 parser_process_directives g m from zero at version k = k at
 parser_process_directives g m from (suc n) at version k = look g at λ t.
-    if is t VERSION_DIRECTIVE then (if version then Refused 3 t.start
+    choose is t VERSION_DIRECTIVE then (choose version then Refused 3 t.start
     else parser_process_directives g m from n (suc at) true k)
-    else if is t TAG_DIRECTIVE then tag_directive g m from at t (parser_process_directives g m from n (suc at) version k)
-    else if is t RESERVED_DIRECTIVE then parser_process_directives g m from n (suc at) version k
+    else choose is t TAG_DIRECTIVE then tag_directive g m from at t (parser_process_directives g m from n (suc at) version k)
+    else choose is t RESERVED_DIRECTIVE then parser_process_directives g m from n (suc at) version k
     else k at
 
 -- names are forgotten at each DocumentStart, where that is asked for
 unfoldable pub document_names : Given → Names
-document_names g = if g.forget then NamesForgotten else NamesKept
+document_names g = choose g.forget then NamesForgotten else NamesKept
 
 -- a document starts at t: its event's number, what is taken, where the machine goes
 unfoldable pub document : Given → Small → ℕ → Token → ℕ → State → Tags → Decision
@@ -90,8 +90,8 @@ document g m at t explicit state tags = push_state m (Next (record {
 
 unfoldable pub after_directives : Given → Small → ℕ → ℕ → Decision
 after_directives g m from at = look g at λ t.
-    if is t DOCUMENT_START then document g m (suc at) t 1 s.DocumentContent (TagsDeclared from at)
-    else if is t BYTE_ORDER_MARK then Refused 5 t.start
+    choose is t DOCUMENT_START then document g m (suc at) t 1 s.DocumentContent (TagsDeclared from at)
+    else choose is t BYTE_ORDER_MARK then Refused 5 t.start
     else Refused 2 t.start
 
 unfoldable pub explicit_document_start : Given → Small → ℕ → Decision
@@ -99,10 +99,10 @@ explicit_document_start g m at = parser_process_directives g m at (g.count - at)
 
 unfoldable pub document_start_at : Given → Small → Bool → ℕ → Decision
 document_start_at g m implicit at = look g at λ t.
-    if is t STREAM_END then give (suc at) (Stay s.End) (plain 2 t.start t.end 0)
-    else if among t (VERSION_DIRECTIVE ∷ TAG_DIRECTIVE ∷ RESERVED_DIRECTIVE ∷ DOCUMENT_START ∷ [])
+    choose is t STREAM_END then give (suc at) (Stay s.End) (plain 2 t.start t.end 0)
+    else choose among t (VERSION_DIRECTIVE ∷ TAG_DIRECTIVE ∷ RESERVED_DIRECTIVE ∷ DOCUMENT_START ∷ [])
     then explicit_document_start g m at
-    else if implicit then document g m at t 0 s.BlockNode TagsKept
+    else choose implicit then document g m at t 0 s.BlockNode TagsKept
     else explicit_document_start g m at
 
 unfoldable pub document_start : Given → Small → Bool → Decision
@@ -126,8 +126,8 @@ pub data Resolved : Type 0 where
 -- a handle that no directive declares: `!!` is the constant, `!x!` is refused, any other stays itself
 unfoldable pub undeclared : List ℕ → Range → Resolved
 undeclared handle r =
-    if same handle (33 ∷ 33 ∷ []) then Tagged 1 no_range
-    else if named_handle? handle then Undeclared
+    choose same handle (33 ∷ 33 ∷ []) then Tagged 1 no_range
+    else choose named_handle? handle then Undeclared
     else Tagged 2 r
 
 unfoldable pub resolved : Hit Handle → Resolved → Resolved
@@ -172,7 +172,7 @@ with_tag g m p t k = tagged (resolve_tag g m t.a) p t k
 -- a name that is new wants a place
 unfoldable pub register_anchor : Given → Small → Token → Decision → Decision
 register_anchor g m t d =
-    if hit? (first (anchors.named g.text t.a) m.anchors) then d
+    choose hit? (first (anchors.named g.text t.a) m.anchors) then d
     else Wants AnchorPlace (suc (length m.anchors)) d
 
 -- the event of a node
@@ -188,18 +188,18 @@ node at move p kind end style value = Next (record {
 -- the content of a node in a block, a missing content behind a property, or 8
 unfoldable pub block_content : ℕ → Over → Bool → Properties → Token → Decision
 block_content at over block p t =
-    if block && is t BLOCK_SEQUENCE_START then node at (into over s.BlockSequenceFirstEntry) p 7 t.end 0 no_range
-    else if block && is t BLOCK_MAPPING_START then node at (into over s.BlockMappingFirstKey) p 9 t.end 0 no_range
-    else if p.any then node at (pop_state over) p 6 p.end 0 no_range
+    choose block && is t BLOCK_SEQUENCE_START then node at (into over s.BlockSequenceFirstEntry) p 7 t.end 0 no_range
+    else choose block && is t BLOCK_MAPPING_START then node at (into over s.BlockMappingFirstKey) p 9 t.end 0 no_range
+    else choose p.any then node at (pop_state over) p 6 p.end 0 no_range
     else Refused 8 t.start
 
 -- the content t at `at`
 unfoldable pub content : ℕ → Over → Bool → Bool → Properties → Token → Decision
 content at over block indentless p t =
-    if indentless && is t BLOCK_ENTRY then node at (into over s.IndentlessSequenceEntry) p 7 t.end 0 no_range
-    else if is t SCALAR then node (suc at) (pop_state over) p 6 t.end t.style t.a
-    else if is t FLOW_SEQUENCE_START then node at (into over s.FlowSequenceFirstEntry) p 7 t.end 0 no_range
-    else if is t FLOW_MAPPING_START then node at (into over s.FlowMappingFirstKey) p 9 t.end 0 no_range
+    choose indentless && is t BLOCK_ENTRY then node at (into over s.IndentlessSequenceEntry) p 7 t.end 0 no_range
+    else choose is t SCALAR then node (suc at) (pop_state over) p 6 t.end t.style t.a
+    else choose is t FLOW_SEQUENCE_START then node at (into over s.FlowSequenceFirstEntry) p 7 t.end 0 no_range
+    else choose is t FLOW_MAPPING_START then node at (into over s.FlowMappingFirstKey) p 9 t.end 0 no_range
     else block_content at over block p t
 
 unfoldable pub node_content : Given → ℕ → Over → Bool → Bool → Properties → Decision
@@ -213,27 +213,27 @@ alias at over t (Got a) = give at (pop_state over) (plain 5 t.start t.end a.id)
 -- an anchor t, then perhaps a tag at `at`
 unfoldable pub anchor_first : Given → Small → ℕ → Over → Bool → Bool → Token → Decision
 anchor_first g m at over block indentless t = register_anchor g m t (look g at λ u.
-    if is u TAG
+    choose is u TAG
     then with_tag g m (with_anchor m (no_properties t.start) t) u (node_content g (suc at) over block indentless)
     else content at over block indentless (with_anchor m (no_properties t.start) t) u)
 
 -- a tag t, then perhaps an anchor at `at`
 unfoldable pub tag_first : Given → Small → ℕ → Over → Bool → Bool → Token → Decision
 tag_first g m at over block indentless t = with_tag g m (no_properties t.start) t λ p. look g at λ u.
-    if is u ANCHOR then register_anchor g m u (node_content g (suc at) over block indentless (with_anchor m p u))
+    choose is u ANCHOR then register_anchor g m u (node_content g (suc at) over block indentless (with_anchor m p u))
     else content at over block indentless p u
 
 -- the properties of a node whose first token is t, and its content; a token that was looked at is not looked at again
 unfoldable pub node_properties : Given → Small → ℕ → Over → Bool → Bool → Token → Decision
 node_properties g m at over block indentless t =
-    if is t ANCHOR then anchor_first g m (suc at) over block indentless t
-    else if is t TAG then tag_first g m (suc at) over block indentless t
+    choose is t ANCHOR then anchor_first g m (suc at) over block indentless t
+    else choose is t TAG then tag_first g m (suc at) over block indentless t
     else content at over block indentless (no_properties t.start) t
 
 -- a node whose first token is t
 unfoldable pub node_from : Given → Small → ℕ → Over → Bool → Bool → Token → Decision
 node_from g m at over block indentless t =
-    if is t ALIAS then alias (suc at) over t (first (anchors.named g.text t.a) m.anchors)
+    choose is t ALIAS then alias (suc at) over t (first (anchors.named g.text t.a) m.anchors)
     else node_properties g m at over block indentless t
 
 unfoldable pub parse_node : Given → Small → ℕ → Over → Bool → Bool → Decision
@@ -245,7 +245,7 @@ parse_node_over g m at p block indentless = push_state m (parse_node g m at (Abo
 
 unfoldable pub document_content : Given → Small → Decision
 document_content g m = look g m.at λ t.
-    if among t (VERSION_DIRECTIVE ∷ TAG_DIRECTIVE ∷ RESERVED_DIRECTIVE ∷ DOCUMENT_START ∷ DOCUMENT_END ∷ BYTE_ORDER_MARK ∷ STREAM_END ∷ [])
+    choose among t (VERSION_DIRECTIVE ∷ TAG_DIRECTIVE ∷ RESERVED_DIRECTIVE ∷ DOCUMENT_START ∷ DOCUMENT_END ∷ BYTE_ORDER_MARK ∷ STREAM_END ∷ [])
     then give m.at Pop (empty_scalar t)
     else parse_node g m m.at Here true false
 
@@ -256,23 +256,23 @@ document_ends g at t state = Next (record {
   move = Stay state;
   event = plain 4 t.start t.end 0;
   names = NamesKept;
-  tags = if g.keep then TagsKept else TagsForgotten;
+  tags = choose g.keep then TagsKept else TagsForgotten;
 })
 
 unfoldable pub document_end_at : Given → ℕ → Decision
 document_end_at g at = look g at λ t.
-    if is t DOCUMENT_END then document_ends g (suc at) t s.ImplicitDocumentStart
-    else if among t (VERSION_DIRECTIVE ∷ TAG_DIRECTIVE ∷ RESERVED_DIRECTIVE ∷ []) then Refused 6 t.start
+    choose is t DOCUMENT_END then document_ends g (suc at) t s.ImplicitDocumentStart
+    else choose among t (VERSION_DIRECTIVE ∷ TAG_DIRECTIVE ∷ RESERVED_DIRECTIVE ∷ []) then Refused 6 t.start
     else document_ends g at t s.DocumentStart
 
 -- behind a run of byte order marks, the first of which starts at `place`
 unfoldable pub after_marks : Given → ℕ → ℕ → Decision
 after_marks g place at = look g at λ t.
-    if among t (DOCUMENT_START ∷ DOCUMENT_END ∷ STREAM_END ∷ []) then document_end_at g at else Refused 5 place
+    choose among t (DOCUMENT_START ∷ DOCUMENT_END ∷ STREAM_END ∷ []) then document_end_at g at else Refused 5 place
 
 unfoldable pub document_end : Given → Small → Decision
 document_end g m = look g m.at λ t.
-    if is t BYTE_ORDER_MARK then after_marks g t.start (past g (BYTE_ORDER_MARK ∷ []) (g.count - m.at) m.at)
+    choose is t BYTE_ORDER_MARK then after_marks g t.start (past g (BYTE_ORDER_MARK ∷ []) (g.count - m.at) m.at)
     else document_end_at g m.at
 
 -- the token of a First state is taken
@@ -282,11 +282,11 @@ taken_first g m false k = k m.at
 
 unfoldable pub block_mapping_at : Given → Small → ℕ → Decision
 block_mapping_at g m at = look g at λ t.
-    if is t KEY then (look g (suc at) λ u.
-    if among u (KEY ∷ VALUE ∷ BLOCK_END ∷ []) then give (suc at) (Stay s.BlockMappingValue) (empty_scalar u)
+    choose is t KEY then (look g (suc at) λ u.
+    choose among u (KEY ∷ VALUE ∷ BLOCK_END ∷ []) then give (suc at) (Stay s.BlockMappingValue) (empty_scalar u)
     else parse_node_over g m (suc at) s.BlockMappingValue true true)
-    else if is t VALUE then give at (Stay s.BlockMappingValue) (empty_scalar t)
-    else if is t BLOCK_END then give (suc at) Pop (plain 10 t.start t.end 0)
+    else choose is t VALUE then give at (Stay s.BlockMappingValue) (empty_scalar t)
+    else choose is t BLOCK_END then give (suc at) Pop (plain 10 t.start t.end 0)
     else Refused 9 t.start
 
 unfoldable pub block_mapping_key : Given → Small → Bool → Decision
@@ -294,26 +294,26 @@ block_mapping_key g m first? = taken_first g m first? (block_mapping_at g m)
 
 unfoldable pub block_mapping_value : Given → Small → Decision
 block_mapping_value g m = look g m.at λ t.
-    if is t VALUE then (look g (suc m.at) λ u.
-    if among u (KEY ∷ VALUE ∷ BLOCK_END ∷ []) then give (suc m.at) (Stay s.BlockMappingKey) (empty_scalar t)
+    choose is t VALUE then (look g (suc m.at) λ u.
+    choose among u (KEY ∷ VALUE ∷ BLOCK_END ∷ []) then give (suc m.at) (Stay s.BlockMappingKey) (empty_scalar t)
     else parse_node_over g m (suc m.at) s.BlockMappingKey true true)
     else give m.at (Stay s.BlockMappingKey) (empty_scalar t)
 
 -- an entry of a flow mapping; `mark` is the comma before it, if there is one
 unfoldable pub flow_mapping_entry : Given → Small → ℕ → Token → Decision
 flow_mapping_entry g m at mark = look g at λ t.
-    if is t KEY then (look g (suc at) λ u.
-    if among u (VALUE ∷ FLOW_ENTRY ∷ FLOW_MAPPING_END ∷ []) then give (suc at) (Stay s.FlowMappingValue) (empty_scalar u)
+    choose is t KEY then (look g (suc at) λ u.
+    choose among u (VALUE ∷ FLOW_ENTRY ∷ FLOW_MAPPING_END ∷ []) then give (suc at) (Stay s.FlowMappingValue) (empty_scalar u)
     else parse_node_over g m (suc at) s.FlowMappingValue false false)
-    else if is t VALUE then give at (Stay s.FlowMappingValue) (empty_scalar t)
-    else if is t FLOW_MAPPING_END then give (suc at) Pop (plain 10 mark.start mark.end 0)
+    else choose is t VALUE then give at (Stay s.FlowMappingValue) (empty_scalar t)
+    else choose is t FLOW_MAPPING_END then give (suc at) Pop (plain 10 mark.start mark.end 0)
     else parse_node_over g m at s.FlowMappingEmptyValue false false
 
 unfoldable pub flow_mapping_at : Given → Small → Bool → ℕ → Decision
 flow_mapping_at g m first? at = look g at λ t.
-    if is t FLOW_MAPPING_END then give (suc at) Pop (plain 10 t.start t.end 0)
-    else if first? then flow_mapping_entry g m at t
-    else if is t FLOW_ENTRY then flow_mapping_entry g m (suc at) t
+    choose is t FLOW_MAPPING_END then give (suc at) Pop (plain 10 t.start t.end 0)
+    else choose first? then flow_mapping_entry g m at t
+    else choose is t FLOW_ENTRY then flow_mapping_entry g m (suc at) t
     else Refused 10 t.start
 
 unfoldable pub flow_mapping_key : Given → Small → Bool → Decision
@@ -321,23 +321,23 @@ flow_mapping_key g m first? = taken_first g m first? (flow_mapping_at g m first?
 
 unfoldable pub flow_mapping_value : Given → Small → Bool → Decision
 flow_mapping_value g m empty = look g m.at λ t.
-    if empty then give m.at (Stay s.FlowMappingKey) (empty_scalar t)
-    else if is t VALUE then (look g (suc m.at) λ u.
-    if among u (FLOW_ENTRY ∷ FLOW_MAPPING_END ∷ []) then give (suc m.at) (Stay s.FlowMappingKey) (empty_scalar t)
+    choose empty then give m.at (Stay s.FlowMappingKey) (empty_scalar t)
+    else choose is t VALUE then (look g (suc m.at) λ u.
+    choose among u (FLOW_ENTRY ∷ FLOW_MAPPING_END ∷ []) then give (suc m.at) (Stay s.FlowMappingKey) (empty_scalar t)
     else parse_node_over g m (suc m.at) s.FlowMappingKey false false)
     else give m.at (Stay s.FlowMappingKey) (empty_scalar t)
 
 unfoldable pub flow_entry : Given → Small → ℕ → Decision
 flow_entry g m at = look g at λ t.
-    if is t FLOW_SEQUENCE_END then give (suc at) Pop (plain 8 t.start t.end 0)
-    else if is t KEY then give (suc at) (Stay s.FlowSequenceEntryMappingKey) (plain 9 t.start t.end 0)
+    choose is t FLOW_SEQUENCE_END then give (suc at) Pop (plain 8 t.start t.end 0)
+    else choose is t KEY then give (suc at) (Stay s.FlowSequenceEntryMappingKey) (plain 9 t.start t.end 0)
     else parse_node_over g m at s.FlowSequenceEntry false false
 
 unfoldable pub flow_sequence_at : Given → Small → Bool → ℕ → Decision
 flow_sequence_at g m first? at = look g at λ t.
-    if is t FLOW_SEQUENCE_END then give (suc at) Pop (plain 8 t.start t.end 0)
-    else if first? then flow_entry g m at
-    else if is t FLOW_ENTRY then flow_entry g m (suc at)
+    choose is t FLOW_SEQUENCE_END then give (suc at) Pop (plain 8 t.start t.end 0)
+    else choose first? then flow_entry g m at
+    else choose is t FLOW_ENTRY then flow_entry g m (suc at)
     else Refused 11 t.start
 
 unfoldable pub flow_sequence_entry : Given → Small → Bool → Decision
@@ -345,17 +345,17 @@ flow_sequence_entry g m first? = taken_first g m first? (flow_sequence_at g m fi
 
 unfoldable pub indentless_sequence_entry : Given → Small → Decision
 indentless_sequence_entry g m = look g m.at λ t.
-    if is t BLOCK_ENTRY then (look g (suc m.at) λ u.
-    if among u (BLOCK_ENTRY ∷ KEY ∷ VALUE ∷ BLOCK_END ∷ [])
+    choose is t BLOCK_ENTRY then (look g (suc m.at) λ u.
+    choose among u (BLOCK_ENTRY ∷ KEY ∷ VALUE ∷ BLOCK_END ∷ [])
     then give (suc m.at) (Stay s.IndentlessSequenceEntry) (empty_scalar t)
     else parse_node_over g m (suc m.at) s.IndentlessSequenceEntry true false)
     else give m.at Pop (plain 8 t.start t.end 0)
 
 unfoldable pub block_sequence_at : Given → Small → ℕ → Decision
 block_sequence_at g m at = look g at λ t.
-    if is t BLOCK_END then give (suc at) Pop (plain 8 t.start t.end 0)
-    else if is t BLOCK_ENTRY then (look g (suc at) λ u.
-    if among u (BLOCK_ENTRY ∷ BLOCK_END ∷ []) then give (suc at) (Stay s.BlockSequenceEntry) (empty_scalar t)
+    choose is t BLOCK_END then give (suc at) Pop (plain 8 t.start t.end 0)
+    else choose is t BLOCK_ENTRY then (look g (suc at) λ u.
+    choose among u (BLOCK_ENTRY ∷ BLOCK_END ∷ []) then give (suc at) (Stay s.BlockSequenceEntry) (empty_scalar t)
     else parse_node_over g m (suc at) s.BlockSequenceEntry true false)
     else Refused 12 t.start
 
@@ -364,14 +364,14 @@ block_sequence_entry g m first? = taken_first g m first? (block_sequence_at g m)
 
 unfoldable pub flow_sequence_entry_mapping_key : Given → Small → Decision
 flow_sequence_entry_mapping_key g m = look g m.at λ t.
-    if among t (VALUE ∷ FLOW_ENTRY ∷ FLOW_SEQUENCE_END ∷ [])
+    choose among t (VALUE ∷ FLOW_ENTRY ∷ FLOW_SEQUENCE_END ∷ [])
     then give (suc m.at) (Stay s.FlowSequenceEntryMappingValue) (empty_scalar t)
     else parse_node_over g m m.at s.FlowSequenceEntryMappingValue false false
 
 unfoldable pub flow_sequence_entry_mapping_value : Given → Small → Decision
 flow_sequence_entry_mapping_value g m = look g m.at λ t.
-    if is t VALUE then (look g (suc m.at) λ u.
-    if among u (FLOW_ENTRY ∷ FLOW_SEQUENCE_END ∷ [])
+    choose is t VALUE then (look g (suc m.at) λ u.
+    choose among u (FLOW_ENTRY ∷ FLOW_SEQUENCE_END ∷ [])
     then give (suc m.at) (Stay (s.FlowSequenceEntryMappingEnd u.end)) (empty_scalar u)
     else parse_node_over g m (suc m.at) (s.FlowSequenceEntryMappingEnd u.end) false false)
     else give m.at (Stay (s.FlowSequenceEntryMappingEnd t.end)) (empty_scalar t)

@@ -6,7 +6,7 @@ use Rattle.tables.specs.Anchors as anchors
 use Rattle.tables.specs.declared.anchors.Anchor.{Anchor}
 use Rattle.tables.specs.declared.handles.Handle.{Handle}
 use Rattle.rules.specs.States.{END, numbers}
-use Rattle.rules.specs.Rules.{if◌then◌else◌, Given, Small, Move, Stay, Push, Pop, Names, NamesKept, NamePut, NamesForgotten, Tags, TagsKept, TagsDeclared, TagsForgotten, Change, Place, OpenPlace, AnchorPlace, HandlePlace, Decision, Next, Refused, Unreachable, Wants, declare, state_machine}
+use Rattle.rules.specs.Rules.{choose◌then◌else◌, Given, Small, Move, Stay, Push, Pop, Names, NamesKept, NamePut, NamesForgotten, Tags, TagsKept, TagsDeclared, TagsForgotten, Change, Place, OpenPlace, AnchorPlace, HandlePlace, Decision, Next, Refused, Unreachable, Wants, declare, state_machine}
 use Rattle.rules.specs.declared.State.{State}
 use Rattle.rules.specs.declared.State.TheVariants as s
 
@@ -32,7 +32,7 @@ unfoldable pub limit : Rooms → Decision → Decision
 limit r (Next c) = Next c
 limit r (Refused number place) = Refused number place
 limit r Unreachable = Unreachable
-limit r (Wants p n d) = if leb n (room r p) then limit r d else Refused (short p) 0
+limit r (Wants p n d) = choose leb n (room r p) then limit r d else Refused (short p) 0
 
 -- the machine whole: the open states with the last on top, the tables with the oldest first
 pub record Model : Type 0 where
@@ -134,4 +134,4 @@ onward m Stuck k = stop m STUCK 0
 -- the run from m on, with room for n events: an event is stored last in its step
 unfoldable pub run : Rooms → Given → ℕ → Model → Outcome
 run r g zero m = onward m (step r g m) λ e m'. stop m 22 0
-run r g (suc n) m = onward m (step r g m) λ e m'. store e (if ended m'.state then stop m' 0 0 else run r g n m')
+run r g (suc n) m = onward m (step r g m) λ e m'. store e (choose ended m'.state then stop m' 0 0 else run r g n m')

@@ -34,6 +34,7 @@ pub enum State {
 }
 
 // A state that holds no position.
+#[tactic(auto, unfolding(crate::specs::States::ranked))]
 fn ranked(rank: u32) -> OpenState
     ensures { result ≡ ranked rank }
 {
@@ -89,6 +90,7 @@ impl State {
 
 impl State {
     // The two numbers of a state: its rank, and the position that it holds, else 0.
+    #[tactic(auto, unfolding(crate::specs::States::numbers))]
     pub fn numbers(self) -> OpenState
         ensures { result ≡ numbers self }
     {
@@ -124,6 +126,7 @@ impl State {
     }
 
     // The state that has the numbers; End where there is no such rank.
+    #[tactic(auto, unfolding(crate::specs::States::back, crate::specs::States::states))]
     pub fn back(p: OpenState) -> State
         ensures { result ≡ back p }
     {

@@ -33,7 +33,7 @@ use Rattle.tables.proofs.HandleLaws as hl
 use Rattle.tables.specs.Anchors.{anchor_size}
 use Rattle.tables.specs.Handles.{handle_size}
 use Rattle.rules.specs.Rules.{declare, declare_read}
-use Rattle.rules.specs.Rules.Words.{if◌then◌else◌, Given, is}
+use Rattle.rules.specs.Rules.Words.{choose◌then◌else◌, Given, is}
 use Rattle.rules.specs.Lists.{in_bytes}
 use Rattle.rules.specs.States.{numbers, back}
 use Rattle.rules.specs.declared.State.{State}
@@ -223,7 +223,7 @@ module _ (tokens text b : List ℕ) (n at : ℕ) where
   }
 
   pub declared_other : (x : Token) → read_at tokens (length text) at ≡ read.Token x → (x.kind ≡ 4 → ⊥) → Declaring tokens text b n at 1 n b
-  unfolding declare_read in_bytes is if◌then◌else◌
+  unfolding declare_read in_bytes is choose◌then◌else◌
   declared_other x q d = record {
     table = λ keep forget room.
         rw (declared_one (in_bytes tokens (places tokens token_size) text keep forget) (h.handles_of b n), q, ne_eqb x.kind 4 d);
@@ -232,7 +232,7 @@ module _ (tokens text b : List ℕ) (n at : ℕ) where
 
   pub declared_tag : (x : Token) (r : ℕ) (after : List ℕ) → read_at tokens (length text) at ≡ read.Token x → x.kind ≡ 4
       → Entering text b n (record { name = x.a; prefix = x.b }) r after → Declaring tokens text b n at 1 r after
-  unfolding declare_read in_bytes is if◌then◌else◌
+  unfolding declare_read in_bytes is choose◌then◌else◌
   declared_tag x r after q d k = record {
     table = λ keep forget.
         rw (declared_one (in_bytes tokens (places tokens token_size) text keep forget) (h.handles_of b n), q, eq-eqb x.kind 4 d) k.table;
@@ -254,13 +254,13 @@ module _ (tokens text b : List ℕ) (n from : ℕ) where
     go false i = omega arith
 
   read_grows : (g : Given) (x : Read) (hs : List Handle) → length hs ≤ length (declare_read g x hs)
-  unfolding declare_read if◌then◌else◌
+  unfolding declare_read choose◌then◌else◌
   read_grows g (read.Refused e) hs = omega arith
   read_grows g (read.Token x) hs = go (is x 4) where
     ys : List Handle
     ys = entered (h.named g.text x.a) (record { name = x.a; prefix = x.b }) hs
 
-    go : (r : Bool) → length hs ≤ length (if r then ys else hs)
+    go : (r : Bool) → length hs ≤ length (choose r then ys else hs)
     go true = entered_grows (h.named g.text x.a) (record { name = x.a; prefix = x.b }) hs
     go false = omega arith
 

@@ -18,7 +18,7 @@ use Rattle.tables.specs.Anchors.{anchors_of}
 use Rattle.tables.specs.Handles.{handles_of}
 use Rattle.rules.specs.States.{numbers, ranked}
 use Rattle.rules.specs.Rules.{state_machine}
-use Rattle.rules.specs.Rules.Words.{if◌then◌else◌, Given}
+use Rattle.rules.specs.Rules.Words.{choose◌then◌else◌, Given}
 use Rattle.rules.specs.Run as run
 use Rattle.rules.specs.Run.{Rooms, Model, Go, Halt, Stuck, step, Outcome, stop, store, ended, STUCK, onward}
 use Rattle.rules.specs.Lists.{in_bytes, start, on}
@@ -63,11 +63,11 @@ module _ (r : Rooms) (g : Given) (m : Model) where
     run_full n z = rw (z, q)
 
     run_ends : (n k : ℕ) → n ≡ suc k → ended m'.state ≡ true → run.run r g n m ≡ store e (stop m' 0 0)
-    unfolding run.run onward if◌then◌else◌
+    unfolding run.run onward choose◌then◌else◌
     run_ends n k z i = rw (z, q, i)
 
     run_goes : (n k : ℕ) → n ≡ suc k → ended m'.state ≡ false → run.run r g n m ≡ store e (run.run r g k m')
-    unfolding run.run onward if◌then◌else◌
+    unfolding run.run onward choose◌then◌else◌
     run_goes n k z i = rw (z, q, i)
 
 stored_none : (b : List ℕ) (at : ℕ) (ns : List ℕ) → has_place b (4 * length ns) at ≡ false → stored b at ns ≡ b

@@ -11,10 +11,11 @@ use Rattle.tables.specs.declared.anchors.Anchor.{Anchor}
 use Rattle.tables.specs.declared.handles.Handle.{Handle}
 use Rattle.rules.specs.declared.State.{State}
 
-infix 5 if◌then◌else◌
-unfoldable pub if◌then◌else◌ : {A : Type 0} → Bool → A → A → A
-if◌then◌else◌ true a b = a
-if◌then◌else◌ false a b = b
+-- the choice by a test: the library's `if`, under a name that stays folded in a proof until it is unfolded
+infix 5 choose◌then◌else◌
+unfoldable pub choose◌then◌else◌ : {A : Type 0} → Bool → A → A → A
+choose◌then◌else◌ true a b = a
+choose◌then◌else◌ false a b = b
 
 -- kinds of tokens
 abbrev pub STREAM_START : ℕ
@@ -104,7 +105,7 @@ pub data Hit (A : Type 0) : Type 0 where
 
 unfoldable pub first : {A : Type 0} → (A → Bool) → List A → Hit A
 first p [] = Miss
-first p (x ∷ xs) = if p x then Got x else first p xs
+first p (x ∷ xs) = choose p x then Got x else first p xs
 
 unfoldable pub hit? : {A : Type 0} → Hit A → Bool
 hit? Miss = false

@@ -1,0 +1,6 @@
+use borrow.Author.Rules.{rules}
+use Rattle.parser.proofs.Machine.give.Goals as goal
+
+pub returns : goal.returns
+returns c =
+    simp (c.done.ensures, c.next.ensures, c.goes-m.ensures)

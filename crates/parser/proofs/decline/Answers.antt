@@ -1,0 +1,6 @@
+use borrow.Author.Rules.{rules}
+use Rattle.parser.proofs.decline.Goals as goal
+
+pub returns : goal.returns
+returns c =
+    simp (c.done.ensures, c.refuse.ensures)

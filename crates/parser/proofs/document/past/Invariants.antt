@@ -1,0 +1,19 @@
+use native.Mathlib.Omega.{arith}
+use native.Mathlib.Numerals.{add-one}
+use mathlib.Core.Path.{◌≡◌, refl, sym, ◌∙◌}
+use Prim.Native.Nat.{◌-◌, ◌<◌}
+use borrow.Author.Rules.{rules}
+use Rattle.places.specs.Places.{places}
+use Rattle.records.specs.Tokens.{token_size}
+use Rattle.rules.specs.Rules.{past}
+use Rattle.parser.specs.Documents.{unset, marks}
+use Rattle.parser.proofs.DocumentLaws.{past_on, past_end, passes_inside}
+use Rattle.parser.proofs.document.past.Given as goal
+
+abbrev pub invariant-loop-i : goal.invariant-loop-i
+invariant-loop-i l =
+    past (unset l.tokens l.text) (marks l.ends) (places l.tokens token_size - l.at) l.at ≡ past (unset l.tokens l.text) (marks l.ends) (places l.tokens token_size - l.i) l.i
+
+abbrev pub decreases-loop-i : goal.decreases-loop-i
+decreases-loop-i l =
+    places l.tokens token_size - l.i

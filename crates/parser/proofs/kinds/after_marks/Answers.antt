@@ -1,0 +1,24 @@
+use native.Mathlib.Numerals.{add-one}
+use borrow.Author.Tests.{ne_eqb}
+use Rattle.rules.specs.Rules.Words.{one_of}
+use Rattle.parser.proofs.kinds.after_marks.Goals as goal
+
+pub returns-in-6 : goal.returns-in-6
+unfolding one_of
+returns-in-6 c =
+    simp (add-one, c.in-6.is)
+
+pub returns-in-7 : goal.returns-in-7
+unfolding one_of
+returns-in-7 c =
+    simp (add-one, c.in-7.is)
+
+pub returns-in-2 : goal.returns-in-2
+unfolding one_of
+returns-in-2 c =
+    simp (add-one, c.in-2.is)
+
+pub returns-in_default : goal.returns-in_default
+unfolding one_of
+returns-in_default c =
+    simp (add-one, ne_eqb _ _ c.in_default.in_default-own.rest.0.0.1, ne_eqb _ _ c.in_default.in_default-own.rest.0.1, ne_eqb _ _ c.in_default.in_default-own.rest.1)

@@ -1,0 +1,8 @@
+use borrow.Author.Rules.{rules}
+use Rattle.rules.specs.Run.{ended}
+use Rattle.run.proofs.is_end.Goals as goal
+
+pub returns : goal.returns
+unfolding ended
+returns c =
+    rw (← c.numbers-p.ensures)
