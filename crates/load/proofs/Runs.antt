@@ -18,7 +18,6 @@ use Rattle.rules.specs.Rules.Words.{Given}
 use Rattle.rules.specs.Run.{Rooms, fresh, run}
 use Rattle.rules.specs.Lists.{Listed}
 use Rattle.rules.specs.Walk.{kinds, outside, walk, Walked, Passes, well, too_deep}
-use Rattle.rules.specs.Walk as k
 use Rattle.rules.proofs.Runs.{ran}
 use Rattle.rules.proofs.Walks.{accepted_walks}
 use Rattle.load.specs.Load.{count, from, answered, said, loaded}

@@ -11,7 +11,6 @@ use lib.ListN.{length, get_or}
 use Rattle.places.specs.Places.{places}
 use Rattle.records.specs.Checks.{most_tokens, most_text}
 use Rattle.records.specs.Tokens.{good, within}
-use Rattle.records.specs.declared.checks.Checked.TheVariants as checked
 use Rattle.records.specs.declared.names.Range.{Range}
 use Rattle.records.specs.declared.events.Event.{Event}
 use Rattle.records.specs.declared.events.Tag.{Tag}

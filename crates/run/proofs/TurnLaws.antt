@@ -36,7 +36,6 @@ use Rattle.run.specs.Apply.{opens_of}
 use Rattle.records.specs.Events.{written}
 use Rattle.records.specs.Tokens.{token_size}
 use Rattle.run.specs.Run.{Told, told}
-use Rattle.run.specs.Turns as turns
 use Rattle.run.specs.Turns.{stopped, went_says, answered, tell, model_of, given_of, Tidy, Ready, Here, rest, taken_turn, taken_bytes, Taking, On, Ended, Stopped, Turned}
 use Rattle.run.specs.declared.Went.{Went}
 use Rattle.run.specs.declared.Went.TheVariants as went

@@ -1,4 +1,3 @@
-use borrow.Author.Rules.{rules}
 use native.Mathlib.Omega.{arith}
 use Rattle.face.proofs.FaceLaws.{no_walk, walk_answer}
 use Rattle.face.proofs.saphyr_load.Goals as goal

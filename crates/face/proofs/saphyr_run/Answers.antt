@@ -1,4 +1,3 @@
-use borrow.Author.Rules.{rules}
 use Rattle.face.specs.Face.{on, answered}
 use Rattle.face.proofs.FaceLaws.{no_answer, run_answer}
 use Rattle.face.proofs.saphyr_run.Goals as goal

@@ -1,11 +1,8 @@
 -- The documents from 1 to `at` are read; the events left fall.
-use Prim.Native.Nat.{◌-◌}
 use mathlib.Core.Path.{◌∙◌}
 use native.Mathlib.Omega.{arith}
-use borrow.Author.Rules.{rules}
-use Rattle.load.specs.Load.{count}
 use Rattle.load.proofs.KindLaws.{there}
-use Rattle.load.proofs.PartLaws.{Read, falls, uneven, not_started, started, read_more, not_read, not_over, all_read}
+use Rattle.load.proofs.PartLaws.{falls, uneven, not_started, started, read_more, not_read, not_over, all_read}
 use Rattle.load.proofs.load.Goals as goal
 
 pub returns-then-events-ne0 : goal.returns-then-events-ne0

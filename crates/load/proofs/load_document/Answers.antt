@@ -1,5 +1,4 @@
 use native.Mathlib.Omega.{arith}
-use borrow.Author.Rules.{rules}
 use Rattle.load.proofs.KindLaws.{there}
 use Rattle.load.proofs.PartLaws.{document_no, document_node, document_open, document_end}
 use Rattle.load.proofs.load_document.Goals as goal

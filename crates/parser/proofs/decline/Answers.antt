@@ -1,4 +1,3 @@
-use borrow.Author.Rules.{rules}
 use Rattle.parser.proofs.decline.Goals as goal
 
 pub returns : goal.returns

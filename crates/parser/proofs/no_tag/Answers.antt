@@ -1,4 +1,3 @@
-use borrow.Author.Rules.{rules}
 use native.Mathlib.Numerals.{add-one}
 use Rattle.rules.specs.Rules.Words.{no_tag}
 use Rattle.parser.proofs.no_tag.Goals as goal

@@ -1,4 +1,3 @@
-use borrow.Author.Rules.{rules}
 use native.Mathlib.Numerals.{add-one}
 use Rattle.rules.specs.Rules.Words.{plain}
 use Rattle.parser.proofs.plain.Goals as goal

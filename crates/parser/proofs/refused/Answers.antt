@@ -1,4 +1,3 @@
-use borrow.Author.Rules.{rules}
 use native.Mathlib.Numerals.{add-one}
 use Rattle.parser.specs.Answers.{refused_by}
 use Rattle.parser.proofs.refused.Goals as goal

@@ -1,4 +1,3 @@
-use borrow.Author.Rules.{rules}
 use native.Mathlib.Numerals.{add-one}
 use Rattle.parser.specs.Plans.{turn_of}
 use Rattle.parser.proofs.turn_of.Goals as goal

@@ -1,6 +1,5 @@
 use native.Mathlib.Omega.{arith}
 use mathlib.Core.Path.{sym, ◌∙◌}
-use borrow.Author.Rules.{rules}
 use Rattle.run.proofs.RunLaws.{ready, told_passed, told_refused}
 use Rattle.run.proofs.checked_run.Goals as goal
 

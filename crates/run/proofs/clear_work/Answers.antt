@@ -1,4 +1,3 @@
-use borrow.Author.Rules.{rules}
 use Rattle.run.specs.Run.{cleared}
 use Rattle.run.proofs.clear_work.Goals as goal
 

@@ -1,4 +1,3 @@
-use borrow.Author.Rules.{rules}
 use Rattle.rules.specs.Run.{ended}
 use Rattle.run.proofs.is_end.Goals as goal
 

@@ -1,13 +1,8 @@
 -- What the run tells is what is left of it tells, from where it stands.
 use native.Mathlib.Omega.{arith}
-use mathlib.Core.Path.{◌≡◌, refl, ◌∙◌}
-use Prim.Native.Nat.{◌-◌}
-use borrow.Author.Rules.{rules}
-use lib.ListN.{length}
-use Rattle.places.specs.Places.{places}
-use Rattle.records.specs.Events.{event_size}
+use mathlib.Core.Path.{refl, ◌∙◌}
 use Rattle.run.specs.Turns.{Turned}
-use Rattle.run.proofs.TurnLaws.{Going, few, going_start, going_on, going_ends, going_stops}
+use Rattle.run.proofs.TurnLaws.{few, going_start, going_on, going_ends, going_stops}
 use Rattle.run.proofs.steps.Goals as goal
 
 pub loop-next-init : goal.loop-next-init

@@ -1,12 +1,9 @@
-use native.Mathlib.Omega.{arith}
-use mathlib.Core.Path.{◌≡◌, refl, ◌∙◌}
+use mathlib.Core.Path.{◌≡◌}
 use Prim.Native.Nat.{◌-◌}
-use borrow.Author.Rules.{rules}
 use lib.ListN.{length}
 use Rattle.places.specs.Places.{places}
 use Rattle.records.specs.Events.{event_size}
-use Rattle.run.specs.Turns.{Turned}
-use Rattle.run.proofs.TurnLaws.{Going, few, going_start, going_on, going_ends, going_stops}
+use Rattle.run.proofs.TurnLaws.{Going}
 use Rattle.run.proofs.steps.Given as goal
 
 abbrev pub invariant-loop-next : goal.invariant-loop-next

@@ -1,5 +1,4 @@
 use mathlib.Core.Path.{sym, ◌∙◌}
-use borrow.Author.Rules.{rules}
 use Rattle.records.specs.Events.{numbers_of}
 use Rattle.run.specs.Turns.{taken_turn, taken_bytes}
 use Rattle.run.proofs.take.Goals as goal

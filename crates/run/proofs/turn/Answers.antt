@@ -1,5 +1,4 @@
 use mathlib.Core.Path.{sym, ◌∙◌}
-use borrow.Author.Rules.{rules}
 use Rattle.run.proofs.TurnLaws.{few_ids, turned_taken, turned_halts, turned_sticks}
 use Rattle.run.proofs.turn.Goals as goal
 

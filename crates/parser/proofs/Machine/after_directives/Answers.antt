@@ -1,4 +1,3 @@
-use borrow.Author.Rules.{rules}
 use mathlib.Core.Path.{◌∙◌}
 use Rattle.parser.proofs.DocumentLaws.{document_same}
 use native.Mathlib.Omega.{arith}

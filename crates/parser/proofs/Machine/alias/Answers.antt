@@ -1,4 +1,3 @@
-use borrow.Author.Rules.{rules}
 use Rattle.parser.proofs.NodeLaws.{by_known, by_unknown}
 use native.Mathlib.Numerals.{add-one}
 use Rattle.parser.specs.Answers.{moved, decided, answer, refused_by, refusing, over_of, names_after, handles_after}

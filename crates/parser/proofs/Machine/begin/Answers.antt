@@ -1,4 +1,3 @@
-use borrow.Author.Rules.{rules}
 use native.Mathlib.Numerals.{add-one}
 use Rattle.parser.specs.Answers.{moved, over_of, state_after, open_after}
 use Rattle.rules.specs.Rules.{into}

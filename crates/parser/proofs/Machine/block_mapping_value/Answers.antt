@@ -1,4 +1,3 @@
-use borrow.Author.Rules.{rules}
 use native.Mathlib.Omega.{arith}
 use Rattle.records.proofs.TokenLaws.{inside}
 use Rattle.parser.proofs.By.{by_is, by_look, by_no, by_none, by_not, by_yes}

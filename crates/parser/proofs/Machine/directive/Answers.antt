@@ -1,4 +1,3 @@
-use borrow.Author.Rules.{rules}
 use mathlib.Core.Path.{◌∙◌}
 use Rattle.parser.proofs.Turns.{tag_same}
 use native.Mathlib.Numerals.{add-one}

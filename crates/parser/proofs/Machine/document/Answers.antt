@@ -1,4 +1,3 @@
-use borrow.Author.Rules.{rules}
 use mathlib.Core.List.{[]}
 use Rattle.parser.specs.Machine.{lent}
 use Rattle.parser.proofs.DocumentLaws.{document_room, document_full}

@@ -1,4 +1,3 @@
-use borrow.Author.Rules.{rules}
 use Rattle.parser.proofs.DocumentLaws.{end_past}
 use Rattle.parser.proofs.By.{by_is, by_look, by_none, by_not}
 use native.Mathlib.Numerals.{add-one}

@@ -1,4 +1,3 @@
-use borrow.Author.Rules.{rules}
 use native.Mathlib.Numerals.{add-one}
 use Rattle.parser.specs.Answers.{refusing, decided, answer, state_after, open_after, names_after}
 use Rattle.parser.specs.Machine.{given, lent}

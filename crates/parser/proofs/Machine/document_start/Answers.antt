@@ -1,4 +1,3 @@
-use borrow.Author.Rules.{rules}
 use Rattle.parser.specs.Machine.{lent}
 use Rattle.parser.proofs.DocumentLaws.{start_past}
 use Rattle.parser.proofs.Machine.document_start.Goals as goal

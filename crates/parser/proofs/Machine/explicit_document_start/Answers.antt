@@ -2,16 +2,9 @@
 -- behind a directive that is told, the list goes on
 use native.Mathlib.Omega.{arith}
 use native.Mathlib.Numerals.{add-one}
-use mathlib.Core.Path.{◌≡◌, sym, ◌∙◌}
-use Prim.Native.Nat.{suc, ◌-◌, ◌≤◌, ◌<◌}
-use borrow.Author.Rules.{rules}
-use Rattle.places.specs.Places.{places}
-use Rattle.records.specs.Tokens.{token_size}
-use Rattle.rules.specs.Rules.{explicit_document_start}
-use Rattle.parser.specs.Machine.{lent, given}
-use Rattle.parser.specs.Answers.{decided}
-use Rattle.parser.specs.declared.directives.Directive.TheVariants as d
-use Rattle.parser.proofs.Turns.{onward, declared_to, turn, turned_done, turned_on, turn_start, declared_none}
+use mathlib.Core.Path.{sym, ◌∙◌}
+use Rattle.parser.specs.Machine.{lent}
+use Rattle.parser.proofs.Turns.{turn, turned_done, turned_on, turn_start, declared_none}
 use Rattle.parser.proofs.Machine.explicit_document_start.Goals as goal
 
 pub loop-step-init : goal.loop-step-init

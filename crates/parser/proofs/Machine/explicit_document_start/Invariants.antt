@@ -1,15 +1,11 @@
-use native.Mathlib.Omega.{arith}
-use native.Mathlib.Numerals.{add-one}
-use mathlib.Core.Path.{◌≡◌, sym, ◌∙◌}
-use Prim.Native.Nat.{suc, ◌-◌, ◌≤◌, ◌<◌}
-use borrow.Author.Rules.{rules}
+use mathlib.Core.Path.{◌≡◌}
+use Prim.Native.Nat.{◌-◌, ◌≤◌}
 use Rattle.places.specs.Places.{places}
 use Rattle.records.specs.Tokens.{token_size}
 use Rattle.rules.specs.Rules.{explicit_document_start}
-use Rattle.parser.specs.Machine.{lent, given}
+use Rattle.parser.specs.Machine.{lent}
 use Rattle.parser.specs.Answers.{decided}
-use Rattle.parser.specs.declared.directives.Directive.TheVariants as d
-use Rattle.parser.proofs.Turns.{onward, declared_to, turn, turned_done, turned_on, turn_start, declared_none}
+use Rattle.parser.proofs.Turns.{onward, declared_to}
 use Rattle.parser.proofs.Machine.explicit_document_start.Given as goal
 
 abbrev pub invariant-loop-step : goal.invariant-loop-step

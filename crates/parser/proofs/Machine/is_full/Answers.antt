@@ -1,4 +1,3 @@
-use borrow.Author.Rules.{rules}
 use native.Mathlib.Numerals.{add-one}
 use Rattle.parser.specs.Plans.{is_full}
 use Rattle.parser.proofs.Machine.is_full.Goals as goal

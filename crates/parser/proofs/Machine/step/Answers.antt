@@ -1,4 +1,3 @@
-use borrow.Author.Rules.{rules}
 use mathlib.Core.Path.{sym, ◌∙◌}
 use Rattle.parser.proofs.PlanLaws.{full_node, placed_node}
 use Rattle.parser.specs.Machine.{lent}

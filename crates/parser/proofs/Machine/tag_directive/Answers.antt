@@ -1,4 +1,3 @@
-use borrow.Author.Rules.{rules}
 use native.Mathlib.Numerals.{add-one}
 use Rattle.parser.specs.Answers.{refusing}
 use Rattle.parser.specs.Documents.{tag_directive}

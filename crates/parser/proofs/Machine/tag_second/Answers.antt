@@ -1,4 +1,3 @@
-use borrow.Author.Rules.{rules}
 use Rattle.parser.proofs.NodeLaws.{by_behind, by_follows, by_tagged, by_untagged}
 use Rattle.parser.specs.Machine.{lent, small}
 use Rattle.parser.specs.Answers.{decided, answer, refusing}

@@ -1,10 +1,7 @@
-use native.Mathlib.Omega.{arith}
-use native.Mathlib.Numerals.{add-one}
-use mathlib.Core.Path.{◌≡◌, sym, ◌∙◌}
+use mathlib.Core.Path.{◌≡◌}
 use mathlib.Core.Bool.{false}
-use Prim.Native.Nat.{suc, ◌-◌, ◌≤◌}
-use borrow.Author.Rules.{rules}
-use Rattle.parser.proofs.DirectiveLaws.{own, own_none, own_at, own_found}
+use Prim.Native.Nat.{◌-◌, ◌≤◌}
+use Rattle.parser.proofs.DirectiveLaws.{own}
 use Rattle.parser.proofs.directives.declared.Given as goal
 
 abbrev pub invariant-loop-i : goal.invariant-loop-i

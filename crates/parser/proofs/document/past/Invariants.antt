@@ -1,13 +1,9 @@
-use native.Mathlib.Omega.{arith}
-use native.Mathlib.Numerals.{add-one}
-use mathlib.Core.Path.{◌≡◌, refl, sym, ◌∙◌}
-use Prim.Native.Nat.{◌-◌, ◌<◌}
-use borrow.Author.Rules.{rules}
+use mathlib.Core.Path.{◌≡◌}
+use Prim.Native.Nat.{◌-◌}
 use Rattle.places.specs.Places.{places}
 use Rattle.records.specs.Tokens.{token_size}
 use Rattle.rules.specs.Rules.{past}
 use Rattle.parser.specs.Documents.{unset, marks}
-use Rattle.parser.proofs.DocumentLaws.{past_on, past_end, passes_inside}
 use Rattle.parser.proofs.document.past.Given as goal
 
 abbrev pub invariant-loop-i : goal.invariant-loop-i

@@ -1,4 +1,3 @@
-use borrow.Author.Rules.{rules}
 use native.Mathlib.Numerals.{add-one}
 use Rattle.parser.specs.Nodes.{bare}
 use Rattle.parser.proofs.node.bare.Goals as goal

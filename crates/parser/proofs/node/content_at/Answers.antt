@@ -1,4 +1,3 @@
-use borrow.Author.Rules.{rules}
 use Rattle.parser.specs.Nodes.{behind_of}
 use Rattle.parser.proofs.node.content_at.Goals as goal
 

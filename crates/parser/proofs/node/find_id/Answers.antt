@@ -1,4 +1,3 @@
-use borrow.Author.Rules.{rules}
 use Rattle.parser.specs.Nodes.{known_of}
 use Rattle.parser.proofs.NodeLaws.{anchor_none, anchor_at_lem}
 use Rattle.parser.proofs.node.find_id.Goals as goal

@@ -1,4 +1,3 @@
-use borrow.Author.Rules.{rules}
 use Rattle.parser.proofs.TagLaws.{named-short, named-first, named_last}
 use Rattle.parser.proofs.tag.is_named.Goals as goal
 

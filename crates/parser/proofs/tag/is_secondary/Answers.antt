@@ -1,4 +1,3 @@
-use borrow.Author.Rules.{rules}
 use Rattle.parser.proofs.TagLaws.{secondary-length, secondary-first, secondary_second}
 use Rattle.parser.proofs.tag.is_secondary.Goals as goal
 

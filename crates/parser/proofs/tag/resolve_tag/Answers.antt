@@ -1,4 +1,3 @@
-use borrow.Author.Rules.{rules}
 use Rattle.rules.specs.Rules.{resolved}
 use Rattle.parser.specs.Tags.{resolved_of}
 use Rattle.parser.proofs.NodeLaws.{handle_none, handle_at_lem}

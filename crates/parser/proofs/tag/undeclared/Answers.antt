@@ -1,4 +1,3 @@
-use borrow.Author.Rules.{rules}
 use Rattle.rules.specs.Rules.{undeclared}
 use Rattle.rules.specs.Rules.Words.{choose◌then◌else◌}
 use Rattle.parser.specs.Tags.{resolved_of, secondary}

@@ -1,4 +1,3 @@
-use borrow.Author.Rules.{rules}
 use Rattle.run.specs.Apply.{advanced}
 use Rattle.run.proofs.apply.advanced.Goals as goal
 

@@ -1,4 +1,3 @@
-use borrow.Author.Rules.{rules}
 use Rattle.run.proofs.apply.apply.Goals as goal
 
 pub next_id-next-requires : goal.next_id-next-requires

@@ -1,5 +1,4 @@
 use mathlib.Core.Path.{refl}
-use borrow.Author.Rules.{rules}
 use Rattle.places.proofs.UnusedLaws.{unused_cleared}
 use Rattle.tables.specs.Tables.{table}
 use Rattle.tables.specs.Handles.{handles_of}

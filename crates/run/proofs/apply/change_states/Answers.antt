@@ -1,5 +1,4 @@
 use mathlib.Core.Path.{refl}
-use borrow.Author.Rules.{rules}
 use Rattle.run.specs.Apply.{stands, stood, depth_of, opening, deep}
 use Rattle.run.proofs.apply.change_states.Goals as goal
 

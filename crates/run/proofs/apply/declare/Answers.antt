@@ -1,10 +1,7 @@
 -- After each turn the handles of the tokens before `at` are entered.
 use native.Mathlib.Omega.{arith}
 use mathlib.Core.Path.{◌≡◌, refl, ◌∙◌}
-use Prim.Native.Nat.{suc, ◌+◌, ◌-◌, ◌≤◌}
-use borrow.Author.Rules.{rules}
-use lib.ListN.{length}
-use Rattle.run.specs.Apply.{Declaring}
+use Prim.Native.Nat.{suc, ◌+◌, ◌-◌}
 use Rattle.run.proofs.ApplyLaws.{declared_start, declared_more}
 use Rattle.run.proofs.apply.declare.Goals as goal
 

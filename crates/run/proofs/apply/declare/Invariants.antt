@@ -1,10 +1,7 @@
-use native.Mathlib.Omega.{arith}
-use mathlib.Core.Path.{◌≡◌, refl, ◌∙◌}
-use Prim.Native.Nat.{suc, ◌+◌, ◌-◌, ◌≤◌}
-use borrow.Author.Rules.{rules}
+use mathlib.Core.Path.{◌≡◌}
+use Prim.Native.Nat.{◌-◌, ◌≤◌}
 use lib.ListN.{length}
 use Rattle.run.specs.Apply.{Declaring}
-use Rattle.run.proofs.ApplyLaws.{declared_start, declared_more}
 use Rattle.run.proofs.apply.declare.Given as goal
 
 abbrev pub invariant-loop-at : goal.invariant-loop-at

@@ -1,5 +1,4 @@
 use mathlib.Core.Path.{sym, ◌∙◌}
-use borrow.Author.Rules.{rules}
 use Rattle.run.proofs.ApplyLaws.{declared_refused, declared_other, declared_tag}
 use Rattle.run.proofs.apply.declare_at.Goals as goal
 

@@ -1,4 +1,3 @@
-use borrow.Author.Rules.{rules}
 use Rattle.run.proofs.ApplyLaws.{entered_used, entered_full}
 use Rattle.run.proofs.apply.enter.Goals as goal
 

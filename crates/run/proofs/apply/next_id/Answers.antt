@@ -1,6 +1,5 @@
 use native.Mathlib.Omega.{arith}
 use native.Mathlib.Numerals.{add-one}
-use borrow.Author.Rules.{rules}
 use Rattle.run.specs.Apply.{numbered}
 use Rattle.run.proofs.apply.next_id.Goals as goal
 

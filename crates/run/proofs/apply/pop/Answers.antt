@@ -1,6 +1,4 @@
 use native.Mathlib.Omega.{arith}
-use borrow.Author.Rules.{rules}
-use Rattle.tables.specs.declared.states.Popped.TheVariants as popped
 use Rattle.run.proofs.ApplyLaws.{some_open, pops, pops_none}
 use Rattle.run.proofs.apply.pop.Goals as goal
 

@@ -1,6 +1,5 @@
 use native.Mathlib.Omega.{arith}
 use mathlib.Core.Path.{sym, ◌∙◌}
-use borrow.Author.Rules.{rules}
 use Rattle.places.proofs.PlaceLaws.{below}
 use Rattle.tables.specs.States.{state_size, numbers_of}
 use Rattle.run.proofs.ApplyLaws.{pushed, not_pushed}
