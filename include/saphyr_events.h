@@ -1,7 +1,7 @@
 /*
  * YAML events from a token list: the event machine of saphyr-parser 0.3.3, proved.
  *
- * Link libface.a, which `rt staticlib face` writes to target/staticlib/ (x86-64 Linux). The code allocates nothing,
+ * Link libface.a, which `tools/library.sh` writes to target/staticlib/ (x86-64 Linux). The code allocates nothing,
  * keeps nothing between calls, and never reads or writes outside what is lent to it.
  *
  * Every number in a record is 4 bytes, little-endian; no buffer needs an alignment.

@@ -1,47 +1,59 @@
 #!/usr/bin/env python3
-"""times.py: seconds of the last gate, from target/: the check of each crate, its edits, and the parts of the gate."""
-import glob
+"""times.py: seconds of the last gate, from target/: when in its `rt ci` the proof of each crate came, with how many edits that
+crate has, and the parts of the gate. `rt ci` proves crates side by side and does not say how long each took; what it kept from
+earlier runs is `kept`.
+
+times.py --note FILE: how the gate keeps that: copies its input, and writes rt's own lines to FILE with the second of each."""
 import os
 import re
 import sys
+import time
 
 ROOT = os.path.dirname(os.path.dirname(os.path.abspath(__file__)))
 TARGET = f"{ROOT}/target"
 
 
-def seconds(path, pattern):
-    m = re.search(pattern, open(path).read())
-    return int(m.group(1)) if m else None
+def note(path):
+    since = time.monotonic()
+    with open(path, "wb") as kept:
+        for line in sys.stdin.buffer:
+            sys.stdout.buffer.write(line)
+            sys.stdout.buffer.flush()
+            if line.startswith(b"rt: "):
+                kept.write(b"%6d  " % (time.monotonic() - since) + line)
+    return 0
 
 
 def crates():
     text = open(f"{ROOT}/crates.txt").read()
-    return re.findall(r"^(\w+):", text, re.M)
+    return re.findall(r"^(\w+)[^:#\n]*:", text, re.M)
 
 
-def edits(crate):
-    """How many edits were tried, and their seconds in all: each takes one core."""
-    took = [seconds(p, r"(\d+) s\)") for p in glob.glob(f"{TARGET}/must-fail/{crate}/*.out")]
-    return [t for t in took if t is not None]
+def came(said, pattern):
+    """The second of a line, if it is there."""
+    m = re.search(rf"^ *(\d+)  rt: {pattern}", said, re.M)
+    return int(m.group(1)) if m else None
 
 
 def main():
-    if not os.path.isdir(f"{TARGET}/log"):
-        sys.exit("times.py: no gate was run here: there is no target/log")
-    print(f"{'crate':14}{'check':>7}{'edits':>7}{'seconds':>9}")
-    checks, tried, all_edits = 0, 0, 0
+    if not os.path.exists(f"{TARGET}/ci"):
+        sys.exit("times.py: no gate has passed here: there is no target/ci")
+    said = open(f"{TARGET}/ci", encoding="utf-8", errors="replace").read()
+    print(f"{'crate':14}{'proved at':>10}{'edits':>7}{'of them kept':>14}")
+    edits, earlier = 0, 0
     for crate in crates():
-        log = f"{TARGET}/log/{crate}.out"
-        check = seconds(log, rf"rt: {crate} proved \((\d+) s\)") if os.path.exists(log) else None
-        took = edits(crate)
-        print(f"{crate:14}{'-' if check is None else check:>7}{len(took):>7}{sum(took):>9}")
-        checks += check or 0
-        tried += len(took)
-        all_edits += sum(took)
-    print(f"{'all':14}{checks:>7}{tried:>7}{all_edits:>9}")
+        at = came(said, rf"{crate} proved$")
+        proved = "kept" if at is None and came(said, rf"{crate} is kept:") is not None else "-" if at is None else at
+        tried = len(re.findall(rf"^ *\d+  rt: must-fail {crate}/", said, re.M))
+        m = re.search(rf"rt: {crate}: (\d+) of its \d+ must-fail edits were tried by an earlier run", said)
+        kept = int(m.group(1)) if m else 0
+        print(f"{crate:14}{proved:>10}{tried:>7}{kept:>14}")
+        edits += tried
+        earlier += kept
+    print(f"{'all':14}{'':>10}{edits:>7}{earlier:>14}")
     if os.path.exists(f"{TARGET}/gate"):
         print("\nparts of the gate, seconds\n" + open(f"{TARGET}/gate").read(), end="")
     return 0
 
 
-sys.exit(main())
+sys.exit(note(sys.argv[2]) if sys.argv[1:2] == ["--note"] and len(sys.argv) == 3 else main())

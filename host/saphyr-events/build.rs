@@ -2,7 +2,7 @@
 use std::env;
 use std::path::{Path, PathBuf};
 
-/// Where `rt staticlib face` writes it.
+/// Where `tools/library.sh` writes it.
 const MADE: &str = "../../target/staticlib/libface.a";
 
 fn main() {

@@ -6,7 +6,7 @@ cd "$(dirname "$0")/../.."
 
 library=${SAPHYR_FACE:-target/staticlib/libface.a}
 if [ ! -f "$library" ]; then
-    echo "tests/c: $library is missing: make it with 'rt staticlib face'" >&2
+    echo "tests/c: $library is missing: make it with 'tools/library.sh'" >&2
     exit 2
 fi
 . tools/machine.sh

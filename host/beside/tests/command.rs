@@ -16,7 +16,7 @@ fn message(words: &[&str]) -> String {
 fn a_run_prints_its_table() {
     let words = ["run", "--count", "12", "--seed", "1", "--class", "grammar"];
     if !beside::LINKED {
-        return assert!(message(&words).contains("rt staticlib face"));
+        return assert!(message(&words).contains("tools/library.sh"));
     }
     let output = beside(&words);
     let shown = String::from_utf8(output.stdout).expect("plain words");
@@ -29,7 +29,7 @@ fn a_run_prints_its_table() {
 fn a_sweep_of_rooms_prints_its_lists() {
     let words = ["rooms", "--tokens", "2"];
     if !beside::LINKED {
-        return assert!(message(&words).contains("rt staticlib face"));
+        return assert!(message(&words).contains("tools/library.sh"));
     }
     let output = beside(&words);
     let shown = String::from_utf8(output.stdout).expect("plain words");
@@ -40,7 +40,7 @@ fn a_sweep_of_rooms_prints_its_lists() {
 #[test]
 fn a_page_past_the_end_is_no_success() {
     let words = ["run", "--count", "1000", "--seed", "9", "--class", "named"];
-    let part = if beside::LINKED { "no list was compared" } else { "rt staticlib face" };
+    let part = if beside::LINKED { "no list was compared" } else { "tools/library.sh" };
     assert!(message(&words).contains(part));
 }
 

@@ -4,7 +4,7 @@
 pub const LINKED: bool = cfg!(face);
 
 /// What to do where it is not.
-pub const MISSING: &str = "built without the proved library: make it with `rt staticlib face` in the top folder \
+pub const MISSING: &str = "built without the proved library: make it with `tools/library.sh` in the top folder \
     (it writes target/staticlib/libface.a, for x86-64 programs), then run this again; SAPHYR_FACE may name another; \
     where the machine is not x86-64, tools/host.sh, called as cargo, builds for it";
 

@@ -4,7 +4,7 @@
 //! [`run`] lends the memory itself and gives events with their types; [`run_in`] works in memory that the caller lends,
 //! and copies the text only where it overlaps the list; [`rooms`] says in advance how much memory is always enough.
 //!
-//! The crate links `libface.a`, which `rt staticlib face` writes in the top folder. It builds without it too; then every
+//! The crate links `libface.a`, which `tools/library.sh` writes in the top folder. It builds without it too; then every
 //! run panics and names that command, and [`LINKED`] is false. The library is for x86-64: where the machine is not,
 //! `tools/host.sh`, called as cargo, builds for it and runs what it built under an emulator.
 //!

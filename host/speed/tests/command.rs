@@ -23,7 +23,7 @@ fn a_list_is_run_by_each_side() {
     for side in ["proved", "rust-owned", "rust-lean", "feeder-owned", "checks"] {
         match LINKED {
             true => assert_eq!(speed(&["one", side, "2"], &list).status.code(), Some(0), "{side}"),
-            false => assert!(message(&["one", side, "2"], &[]).contains("rt staticlib face")),
+            false => assert!(message(&["one", side, "2"], &[]).contains("tools/library.sh")),
         }
     }
 }
@@ -54,6 +54,6 @@ fn a_missing_counter_is_said() {
     let output = command.env("PATH", "").output().expect("the command runs");
     let said = String::from_utf8(output.stderr).expect("plain words");
     assert_eq!(output.status.code(), Some(2), "{said}");
-    assert!(said.contains(if LINKED { "valgrind" } else { "rt staticlib face" }), "{said}");
+    assert!(said.contains(if LINKED { "valgrind" } else { "tools/library.sh" }), "{said}");
     assert!(output.stdout.is_empty());
 }

@@ -7,13 +7,12 @@ const HEAD: &str = "\
 -- Generated from the Rust's answers, in host/: cargo run --release --offline -p lists -- numbers > ../crates/rules/specs/Numbers.antt
 -- A list for each number 0 to 14, and for each setting, tag source and style, with what the run answers and all events. Over
 -- each the same in the notation of docs/DECISIONS.md.
-use mathlib.Core.Bool.{true, false}
-use mathlib.Core.List.{List, [], _∷_}
-use Rattle·rules·specs.specs.Rules.{plain}
-use Rattle·rules·specs.specs.Starred.{Case, bare, styled, word, pair, valued, tag-on, whole}
+use Rattle.std.specs.Prelude.{true, false, List, [], ◌∷◌}
+use Rattle.rules.specs.Rules.{plain}
+use Rattle.rules.specs.Starred.{Case, bare, styled, word, pair, valued, tag_on, whole}
 
-unfoldable pub every-number : List Case
-every-number =
+unfoldable pub every_number : List Case
+every_number =
 ";
 
 const INDENT: &str = "    ";
@@ -94,7 +93,7 @@ fn event(event: &Ev) -> String {
     match source {
         0 => bare,
         _ => format!(
-            "tag-on {source} {} {} {} {} ({bare})",
+            "tag_on {source} {} {} {} {} ({bare})",
             prefix.from, prefix.to, suffix.from, suffix.to
         ),
     }
