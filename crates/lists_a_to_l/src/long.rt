@@ -2,6 +2,7 @@
 use crate::show;
 use records::tokens::Token;
 use run::Settings;
+use std::io;
 
 // Stores a token of this kind. Its positions are 0.
 fn put(tokens: &mut [u8], at: usize, kind: u32) {
@@ -28,31 +29,31 @@ fn make(tokens: &mut [u8]) {
     }
 }
 
-fn show(title: &[u8], tokens: &mut [u8]) {
+fn show(rt: &impl Print, title: &[u8], tokens: &mut [u8]) -> io::Result<()> {
     make(tokens);
     let mut events = [0u8; 2304];
     let s = Settings {
         keep: false,
         forget: false,
     };
-    show::run(title, tokens, b"", s, &mut events);
+    show::run(rt, title, tokens, b"", s, &mut events)
 }
 
 // The array as a slice: its length is known from its type.
-fn show_most(tokens: &mut [u8; 2097152]) {
-    show(b"k: 65,536 tokens", tokens);
+fn show_most(rt: &impl Print, tokens: &mut [u8; 2097152]) -> io::Result<()> {
+    show(rt, b"k: 65,536 tokens", tokens)
 }
 
-fn show_too_many(tokens: &mut [u8; 2097184]) {
-    show(b"k: 65,537 tokens", tokens);
+fn show_too_many(rt: &impl Print, tokens: &mut [u8; 2097184]) -> io::Result<()> {
+    show(rt, b"k: 65,537 tokens", tokens)
 }
 
-pub fn most() {
+pub fn most(rt: &impl Print) -> io::Result<()> {
     let mut tokens = [0u8; 2097152];
-    show_most(&mut tokens);
+    show_most(rt, &mut tokens)
 }
 
-pub fn too_many() {
+pub fn too_many(rt: &impl Print) -> io::Result<()> {
     let mut tokens = [0u8; 2097184];
-    show_too_many(&mut tokens);
+    show_too_many(rt, &mut tokens)
 }

@@ -1,5 +1,6 @@
 // Runs lists a to l of document 01, and writes the answer to each: its number, count and place,
-// and of each event the kind, the span and, where it is not 0, the number.
+// and of each event the kind, the span and, where it is not 0, the number. Where it cannot be written
+// the program ends with the error.
 #![tactic(auto)]
 
 mod build;
@@ -7,11 +8,13 @@ mod lists;
 mod long;
 mod show;
 
-fn main() {
-    lists::first();
-    lists::flow();
-    lists::names();
-    long::most();
-    long::too_many();
-    lists::short_of_room();
+use std::io;
+
+fn main(rt: HostRuntime) -> io::Result<()> {
+    lists::first(&rt)?;
+    lists::flow(&rt)?;
+    lists::names(&rt)?;
+    long::most(&rt)?;
+    long::too_many(&rt)?;
+    lists::short_of_room(&rt)
 }

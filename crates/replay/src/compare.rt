@@ -68,7 +68,7 @@ fn same_parts(x: &[u8], r: Range, y: &[u8], s: Range) -> bool {
     if !inside(y, s) {
         return false;
     }
-    check::same(records::names::part_of(x, r), records::names::part_of(y, s))
+    records::names::part_of(x, r) == records::names::part_of(y, s)
 }
 
 fn is_none(r: Range) -> bool {

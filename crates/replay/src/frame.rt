@@ -12,7 +12,7 @@ const CASE_HEAD: usize = 44;
 const ANSW_HEAD: usize = 32;
 
 // A case and its answer, by the bytes where their parts begin; past the file where one is cut off.
-#[derive(Drop)]
+#[derive(Clone, Copy)]
 pub struct Frame {
     pub case: usize,
     pub tokens: usize,

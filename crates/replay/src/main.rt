@@ -1,7 +1,8 @@
 // Replays files of cases and answers: each case is lent to the face, and what the call leaves
 // behind is compared with the answer that stands after it. tests/README.md has the framing.
 //
-// Each argument is a file. Writes a line for each, and the totals.
+// Each argument is a file. Writes a line for each, and the totals. A line that cannot be written ends
+// the program with the error.
 #![tactic(auto)]
 
 mod bytes;
@@ -9,11 +10,15 @@ mod compare;
 mod frame;
 mod one;
 
-use libc::STDOUT_FILENO;
+ghost use Rattle.std.specs.Prelude.{◌≤◌, length, IfOk};
+
+use std::io::Read;
 use std::num::wrapping_add_u64;
+use std::rt::{Env, Files};
+use std::{env, fs, io};
 
 // How many cases were replayed, and how many of them differ.
-#[derive(Drop)]
+#[derive(Clone, Copy)]
 struct Totals {
     cases: u64,
     differ: u64,
@@ -66,70 +71,89 @@ fn replay(file: &[u8]) -> Totals {
     totals
 }
 
-fn print_totals(name: &[u8], totals: Totals) {
-    io::write_all(STDOUT_FILENO, name);
-    io::write_all(STDOUT_FILENO, b": ");
-    io::print_decimal(STDOUT_FILENO, totals.cases);
-    io::write_all(STDOUT_FILENO, b" cases, ");
-    io::print_decimal(STDOUT_FILENO, totals.differ);
-    io::write_all(STDOUT_FILENO, b" differ\n");
+fn print_totals(rt: &impl Print, name: &str, totals: Totals) -> io::Result<()> {
+    println!(rt; "{name}: {} cases, {} differ", totals.cases, totals.differ)
+}
+
+// Reads until `space` is full or the file ends, and answers how much of it is used.
+fn read_full(file: &mut impl Read, space: &mut [u8]) -> io::Result<usize>
+    ensures { IfOk result (λ n. n ≤ length space.new) }
+{
+    let mut used = 0;
+    while used < space.len() {
+        let n = file.read(&mut space[used..])?;
+        if n == 0 {
+            break;
+        }
+        used += n;
+    }
+    Ok(used)
+}
+
+fn open_and_read(rt: &impl Files, name: &str, space: &mut [u8]) -> io::Result<usize>
+    ensures { IfOk result (λ n. n ≤ length space.new) }
+{
+    let mut file = fs::open(rt, name)?;
+    read_full(&mut file, space)
 }
 
 // Reads the file into `space`, and answers how much of it is used: all of it where the file is too
-// long. Nothing where it cannot be read.
-fn read(name: &[u8], space: &mut [u8]) -> usize {
-    let fd = os::open_read(name);
-    if fd < 0 {
-        os::fail(name);
-        return 0;
+// long. Nothing where it cannot be read, and then standard error says why.
+fn read(rt: &(impl Files + Eprint), name: &str, space: &mut [u8]) -> io::Result<usize>
+    ensures { IfOk result (λ n. n ≤ length space.new) }
+{
+    match open_and_read(rt, name, space) {
+        Ok(n) => Ok(n),
+        Err(error) => {
+            eprintln!(rt; "{name}: {error}")?;
+            Ok(0)
+        }
     }
-    let n = io::read_full(fd, space);
-    libc::close(fd);
-    n
 }
 
 // A file that is empty, cannot be read or does not fit counts as one case that differs.
-fn replay_file(name: &[u8], space: &mut [u8]) -> Totals {
-    let n = read(name, space);
+fn replay_file(rt: &(impl Files + Eprint), name: &str, space: &mut [u8]) -> io::Result<Totals> {
+    let n = read(rt, name, space)?;
     if n == 0 {
-        return one_more(none(), false);
+        return Ok(one_more(none(), false));
     }
     if n >= space.len() {
-        return one_more(none(), false);
+        return Ok(one_more(none(), false));
     }
-    replay(bytes::part(space, 0, n))
+    Ok(replay(bytes::part(space, 0, n)))
 }
 
 // The array as a slice: its length is known from its type.
-fn replay_in(name: &[u8], space: &mut [u8; 1048576]) -> Totals {
-    replay_file(name, space)
+fn replay_in(
+    rt: &(impl Files + Eprint),
+    name: &str,
+    space: &mut [u8; 1048576],
+) -> io::Result<Totals> {
+    replay_file(rt, name, space)
 }
 
 // A file of up to 1,048,575 bytes, and its line.
-fn replay_named(name: &[u8]) -> Totals {
+fn replay_named(rt: &(impl Files + Print + Eprint), name: &str) -> io::Result<Totals> {
     let mut space = [0u8; 1048576];
-    let totals = replay_in(name, &mut space);
-    print_totals(name, totals);
-    totals
+    let totals = replay_in(rt, name, &mut space)?;
+    print_totals(rt, name, totals)?;
+    Ok(totals)
 }
 
-fn replay_argument(i: usize) -> Totals {
-    let mut path = io::buffer();
-    let n = os::arg(i, &mut path);
-    replay_named(&path[..n])
+fn replay_argument(rt: &(impl Files + Print + Eprint), name: String) -> io::Result<Totals> {
+    replay_named(rt, name.as_str())
 }
 
-fn replay_all() -> Totals {
+// Every argument but the program's own name.
+fn replay_all(rt: &(impl Env + AllocGlobal + Files + Print + Eprint)) -> io::Result<Totals> {
     let mut totals = none();
-    let count = os::arg_count();
-    let mut i = 1;
-    while i < count {
-        totals = sum(totals, replay_argument(i));
-        i += 1;
+    for name in env::args(rt)?.skip(1) {
+        totals = sum(totals, replay_argument(rt, name)?);
     }
-    totals
+    Ok(totals)
 }
 
-fn main() {
-    print_totals(b"all", replay_all());
+fn main(rt: HostRuntime) -> io::Result<()> {
+    let totals = replay_all(&rt)?;
+    print_totals(&rt, "all", totals)
 }

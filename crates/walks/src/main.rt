@@ -1,39 +1,33 @@
-// The walk over lists of events: a line for each with its number, count and place.
+// The walk over lists of events: a line for each with its number, count and place. A line that cannot
+// be written ends the program with the error.
 #![tactic(auto)]
 
 ghost use Rattle.std.specs.Prelude.{◌≡◌, length};
 
-use io::print_decimal;
-use libc::STDOUT_FILENO;
 use records::events::{Event, Tag};
 use records::names::Range;
+use std::io;
 
-fn print_answer(name: &[u8], a: load::Answer) {
-    io::write_all(STDOUT_FILENO, name);
-    io::write_all(STDOUT_FILENO, b": ");
-    print_decimal(STDOUT_FILENO, a.number as u64);
-    io::write_all(STDOUT_FILENO, b" ");
-    print_decimal(STDOUT_FILENO, a.count as u64);
-    io::write_all(STDOUT_FILENO, b" ");
-    print_decimal(STDOUT_FILENO, a.place as u64);
-    io::write_all(STDOUT_FILENO, b"\n");
+fn print_answer(rt: &impl Print, name: &[u8], a: load::Answer) -> io::Result<()> {
+    rt.write_all(name)?;
+    println!(rt; ": {} {} {}", a.number, a.count, a.place)
 }
 
 // The walk over the first `size` bytes.
-fn walk_bytes(name: &[u8], bytes: &[u8], size: usize) {
+fn walk_bytes(rt: &impl Print, name: &[u8], bytes: &[u8], size: usize) -> io::Result<()> {
     if size > bytes.len() {
-        return;
+        return Ok(());
     }
     let a = load::load(&bytes[..size]);
-    print_answer(name, a);
+    print_answer(rt, name, a)
 }
 
 // The walk over the first `n` events.
-fn walk(name: &[u8], bytes: &[u8], n: usize) {
+fn walk(rt: &impl Print, name: &[u8], bytes: &[u8], n: usize) -> io::Result<()> {
     if n > bytes.len() / Event::SIZE {
-        return;
+        return Ok(());
     }
-    walk_bytes(name, bytes, Event::SIZE * n);
+    walk_bytes(rt, name, bytes, Event::SIZE * n)
 }
 
 // Stores an event that has a kind and nothing else.
@@ -57,14 +51,14 @@ fn put(bytes: &mut [u8], at: usize, kind: u32) {
 }
 
 // The walk over events of these kinds, at most ten.
-fn walk_kinds(name: &[u8], kinds: &[u32]) {
+fn walk_kinds(rt: &impl Print, name: &[u8], kinds: &[u32]) -> io::Result<()> {
     let mut bytes = [0u8; 480];
     let mut i = 0;
     while i < kinds.len() {
         put(&mut bytes, i, kinds[i]);
         i += 1;
     }
-    walk(name, &bytes, kinds.len());
+    walk(rt, name, &bytes, kinds.len())
 }
 
 // Stores `n` events of one kind from `at` on, as many as there is room for; the index after them.
@@ -83,36 +77,36 @@ fn fill(bytes: &mut [u8], at: usize, n: u32, kind: u32) -> usize {
 }
 
 // The walk over runs of events: for each run, how many events and their kind.
-fn walk_runs(name: &[u8], bytes: &mut [u8], runs: &[u32]) {
+fn walk_runs(rt: &impl Print, name: &[u8], bytes: &mut [u8], runs: &[u32]) -> io::Result<()> {
     let mut at = 0;
     let mut i = 0;
     while i + 1 < runs.len() {
         at = fill(bytes, at, runs[i], runs[i + 1]);
         i += 2;
     }
-    walk(name, bytes, at);
+    walk(rt, name, bytes, at)
 }
 
 // Nothing, a byte less than an event, a StreamStart, a byte more.
-fn lengths() {
+fn lengths(rt: &impl Print) -> io::Result<()> {
     let mut bytes = [0u8; 49];
     bytes[0] = 1;
-    walk_bytes(b"0 bytes", &bytes, 0);
-    walk_bytes(b"47 bytes", &bytes, 47);
-    walk_bytes(b"48 bytes", &bytes, 48);
-    walk_bytes(b"49 bytes", &bytes, 49);
+    walk_bytes(rt, b"0 bytes", &bytes, 0)?;
+    walk_bytes(rt, b"47 bytes", &bytes, 47)?;
+    walk_bytes(rt, b"48 bytes", &bytes, 48)?;
+    walk_bytes(rt, b"49 bytes", &bytes, 49)
 }
 
-fn short() {
-    walk_kinds(b"list e", &[1, 3, 7, 9, 6, 6, 10, 8, 4, 2]);
-    walk_kinds(b"no document", &[1, 2]);
-    walk_kinds(b"two documents", &[1, 3, 5, 4, 3, 6, 4, 2]);
-    walk_kinds(b"a value is missing", &[1, 3, 9, 6, 10, 4, 2]);
-    walk_kinds(b"a second node", &[1, 3, 6, 6, 4, 2]);
-    walk_kinds(b"a sequence ends as a mapping", &[1, 3, 7, 10, 4, 2]);
-    walk_kinds(b"it ends early", &[1, 3, 7, 6]);
-    walk_kinds(b"an event after the end", &[1, 2, 1]);
-    walk_kinds(b"a kind of two bytes", &[257, 2]);
+fn short(rt: &impl Print) -> io::Result<()> {
+    walk_kinds(rt, b"list e", &[1, 3, 7, 9, 6, 6, 10, 8, 4, 2])?;
+    walk_kinds(rt, b"no document", &[1, 2])?;
+    walk_kinds(rt, b"two documents", &[1, 3, 5, 4, 3, 6, 4, 2])?;
+    walk_kinds(rt, b"a value is missing", &[1, 3, 9, 6, 10, 4, 2])?;
+    walk_kinds(rt, b"a second node", &[1, 3, 6, 6, 4, 2])?;
+    walk_kinds(rt, b"a sequence ends as a mapping", &[1, 3, 7, 10, 4, 2])?;
+    walk_kinds(rt, b"it ends early", &[1, 3, 7, 6])?;
+    walk_kinds(rt, b"an event after the end", &[1, 2, 1])?;
+    walk_kinds(rt, b"a kind of two bytes", &[257, 2])
 }
 
 // Room for 65,544 events.
@@ -122,32 +116,36 @@ fn room() -> [u8; 3146112]
     [0; 3146112]
 }
 
-fn long() {
+fn long(rt: &impl Print) -> io::Result<()> {
     let mut bytes = room();
     walk_runs(
+        rt,
         b"1,000 deep",
         &mut bytes,
         &[1, 1, 1, 3, 1000, 7, 1000, 8, 1, 4, 1, 2],
-    );
+    )?;
     walk_runs(
+        rt,
         b"1,001 deep",
         &mut bytes,
         &[1, 1, 1, 3, 1001, 7, 1001, 8, 1, 4, 1, 2],
-    );
+    )?;
     walk_runs(
+        rt,
         b"65,536 nodes",
         &mut bytes,
         &[1, 1, 1, 3, 1, 7, 65536, 6, 1, 8, 1, 4, 1, 2],
-    );
+    )?;
     walk_runs(
+        rt,
         b"32,768 pairs",
         &mut bytes,
         &[1, 1, 1, 3, 1, 9, 65536, 6, 1, 10, 1, 4, 1, 2],
-    );
+    )
 }
 
-fn main() {
-    lengths();
-    short();
-    long();
+fn main(rt: HostRuntime) -> io::Result<()> {
+    lengths(&rt)?;
+    short(&rt)?;
+    long(&rt)
 }
