@@ -12,10 +12,11 @@ mod one;
 
 ghost use Rattle.std.specs.Prelude.{◌≤◌, length, IfOk};
 
+use std::env::FillError;
 use std::io::Read;
 use std::num::wrapping_add_u64;
 use std::rt::{Env, Files};
-use std::{env, fs, io};
+use std::{fs, io, str};
 
 // How many cases were replayed, and how many of them differ.
 #[derive(Clone, Copy)]
@@ -71,8 +72,9 @@ fn replay(file: &[u8]) -> Totals {
     totals
 }
 
-fn print_totals(rt: &impl Print, name: &str, totals: Totals) -> io::Result<()> {
-    println!(rt; "{name}: {} cases, {} differ", totals.cases, totals.differ)
+fn print_totals(rt: &impl Print, name: &[u8], totals: Totals) -> io::Result<()> {
+    rt.write_all(name)?;
+    println!(rt; ": {} cases, {} differ", totals.cases, totals.differ)
 }
 
 // Reads until `space` is full or the file ends, and answers how much of it is used.
@@ -90,29 +92,34 @@ fn read_full(file: &mut impl Read, space: &mut [u8]) -> io::Result<usize>
     Ok(used)
 }
 
-fn open_and_read(rt: &impl Files, name: &str, space: &mut [u8]) -> io::Result<usize>
-    ensures { IfOk result (λ n. n ≤ length space.new) }
-{
-    let mut file = fs::open(rt, name)?;
-    read_full(&mut file, space)
-}
-
-// Reads the file into `space`, and answers how much of it is used: all of it where the file is too
-// long. Nothing where it cannot be read, and then standard error says why.
-fn read(rt: &(impl Files + Eprint), name: &str, space: &mut [u8]) -> io::Result<usize>
-    ensures { IfOk result (λ n. n ≤ length space.new) }
-{
-    match open_and_read(rt, name, space) {
-        Ok(n) => Ok(n),
+// The file of that name. None where there is none that can be opened, and then standard error says why.
+fn opened<R: Files + Eprint>(rt: &R, name: &[u8]) -> io::Result<Option<R::File>> {
+    let Ok(path) = str::from_utf8(name) else {
+        eprintln!(rt; "the name of a file is no UTF-8")?;
+        return Ok(None);
+    };
+    match fs::open(rt, path) {
+        Ok(file) => Ok(Some(file)),
         Err(error) => {
-            eprintln!(rt; "{name}: {error}")?;
-            Ok(0)
+            eprintln!(rt; "{path}: {error}")?;
+            Ok(None)
         }
     }
 }
 
-// A file that is empty, cannot be read or does not fit counts as one case that differs.
-fn replay_file(rt: &(impl Files + Eprint), name: &str, space: &mut [u8]) -> io::Result<Totals> {
+// Reads the file into `space`, and answers how much of it is used: all of it where the file is too
+// long. Nothing where it cannot be opened.
+fn read(rt: &(impl Files + Eprint), name: &[u8], space: &mut [u8]) -> io::Result<usize>
+    ensures { IfOk result (λ n. n ≤ length space.new) }
+{
+    match opened(rt, name)? {
+        Some(mut file) => read_full(&mut file, space),
+        None => Ok(0),
+    }
+}
+
+// A file that is empty, cannot be opened or does not fit counts as one case that differs.
+fn replay_file(rt: &(impl Files + Eprint), name: &[u8], space: &mut [u8]) -> io::Result<Totals> {
     let n = read(rt, name, space)?;
     if n == 0 {
         return Ok(one_more(none(), false));
@@ -126,34 +133,49 @@ fn replay_file(rt: &(impl Files + Eprint), name: &str, space: &mut [u8]) -> io::
 // The array as a slice: its length is known from its type.
 fn replay_in(
     rt: &(impl Files + Eprint),
-    name: &str,
+    name: &[u8],
     space: &mut [u8; 1048576],
 ) -> io::Result<Totals> {
     replay_file(rt, name, space)
 }
 
 // A file of up to 1,048,575 bytes, and its line.
-fn replay_named(rt: &(impl Files + Print + Eprint), name: &str) -> io::Result<Totals> {
+fn replay_named(rt: &(impl Files + Print + Eprint), name: &[u8]) -> io::Result<Totals> {
     let mut space = [0u8; 1048576];
     let totals = replay_in(rt, name, &mut space)?;
     print_totals(rt, name, totals)?;
     Ok(totals)
 }
 
-fn replay_argument(rt: &(impl Files + Print + Eprint), name: String) -> io::Result<Totals> {
-    replay_named(rt, name.as_str())
+// Argument `i`, and what its file has. None where there is no such argument; one that is too long for any
+// path counts as a file that cannot be opened.
+fn replay_argument(
+    rt: &(impl Env + Files + Print + Eprint),
+    i: usize,
+) -> io::Result<Option<Totals>> {
+    let mut path = [0u8; 4096];
+    match rt.arg(i, &mut path) {
+        Ok(n) => Ok(Some(replay_named(rt, &path[..n])?)),
+        Err(FillError::NotPresent) => Ok(None),
+        Err(FillError::TooLong) => {
+            eprintln!(rt; "argument {i} has more than 4096 bytes")?;
+            Ok(Some(one_more(none(), false)))
+        }
+    }
 }
 
-// Every argument but the program's own name.
-fn replay_all(rt: &(impl Env + AllocGlobal + Files + Print + Eprint)) -> io::Result<Totals> {
+fn replay_all(rt: &(impl Env + Files + Print + Eprint)) -> io::Result<Totals> {
     let mut totals = none();
-    for name in env::args(rt)?.skip(1) {
-        totals = sum(totals, replay_argument(rt, name)?);
+    for i in 1..usize::MAX {
+        let Some(more) = replay_argument(rt, i)? else {
+            break;
+        };
+        totals = sum(totals, more);
     }
     Ok(totals)
 }
 
 fn main(rt: HostRuntime) -> io::Result<()> {
     let totals = replay_all(&rt)?;
-    print_totals(&rt, "all", totals)
+    print_totals(&rt, b"all", totals)
 }
