@@ -25,7 +25,7 @@
  *
  * Memory to lend for a list of T tokens, so that no room is ever short, whatever the list: SAPHYR_EVENTS_BYTES(T) bytes
  * of events and SAPHYR_STATES_BYTES(T), SAPHYR_ANCHORS_BYTES(T), SAPHYR_HANDLES_BYTES(T) bytes of work memory, for T up to
- * SAPHYR_MAX_TOKENS (proved: `never-short` in crates/promises/proofs/Demand3.antt). A longer list is answered by 26 in no
+ * SAPHYR_MAX_TOKENS (proved: `never_short` in crates/promises/proofs/Demand3.antt). A longer list is answered by 26 in no
  * memory at all. Less may do; numbers 22 to 25 say which was short. The macros are constant expressions where T is one.
  *
  * The numbers:

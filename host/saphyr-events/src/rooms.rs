@@ -18,7 +18,7 @@ impl Rooms {
 }
 
 /// The bytes with which a list of `tokens` tokens is never answered 22 to 25, whatever the list, refused ones too: three
-/// events for each token, and a place in each work memory for each token. Proved as `never-short` in
+/// events for each token, and a place in each work memory for each token. Proved as `never_short` in
 /// `crates/promises/proofs/Demand3.antt`. `include/saphyr_events.h` has the same as `SAPHYR_EVENTS_BYTES` and so on.
 ///
 /// None above 65,536 tokens: the run answers such a list by 26 and needs no memory for it. A list of 0 tokens needs none
