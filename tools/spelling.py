@@ -14,6 +14,8 @@ HERE = os.path.dirname(os.path.abspath(__file__))
 NAMES = dict(l.split() for l in open(f"{HERE}/spelling.txt") if l.strip())
 WORD = re.compile(r"[^\s(){}\[\],;.\"`λ⌜⌝]+")
 QUOTED = re.compile(r'("(?:[^"\\]|\\.)*")')
+# Stands before a name that is turned already.
+ALIAS = "\1"
 # These are lemmas of one crate and, elsewhere, something else of the same name: turned in that crate alone.
 ONLY = {"read_at": "promises", "tidied": "run"}
 
@@ -34,6 +36,21 @@ def turned(text, crate):
         return NAMES.get(word, word)
 
     return WORD.sub(new, text)
+
+
+def aliases(text):
+    """The names that a file gives to modules it imports, in snake case: no other name is meant where one stands."""
+    old = re.findall(r"^use \S+ as ([a-z][\w-]*)$", text, re.M)
+    return {name: name.replace("-", "_") for name in old if "-" in name or name in NAMES}
+
+
+def renamed(text, names):
+    """A module's name stands in the line that imports it and in front of a dot."""
+    if not names:
+        return text
+    one = "|".join(re.escape(n) for n in sorted(names, key=len, reverse=True))
+    text = re.sub(rf"^(use \S+ as )({one})$", lambda m: m.group(1) + ALIAS + names[m.group(2)], text, flags=re.M)
+    return re.sub(rf"(?<![\w.'-])({one})\.(?=[\w«])", lambda m: ALIAS + names[m.group(1)] + ".", text)
 
 
 def camel(text):
@@ -97,7 +114,8 @@ def main():
             for name in sorted(had & set(NAMES)):
                 if ONLY.get(name, crate) == crate and NAMES[name] in had:
                     print(f"look: {os.path.relpath(path, ROOT)}: {name} became {NAMES[name]}, which the file had")
-            changed += write(path, "\n".join(line(l, crate, mark) for l in old.split("\n")), old)
+            text = renamed(old, aliases(old)) if end == "antt" else old
+            changed += write(path, "\n".join(line(l, crate, mark) for l in text.split("\n")).replace(ALIAS, ""), old)
     for path in sorted(glob.glob(f"{ROOT}/crates/*/must-fail/*.edit") + glob.glob(f"{ROOT}/tests/edits/*/*.edit")):
         old = open(path).read()
         crate = crate_of(path) if "/crates/" in path else path.split(os.sep)[-2]

@@ -20,8 +20,8 @@ use Rattle.tables.specs.Handles as handles
 use Rattle.tables.specs.declared.anchors.Anchor.{Anchor}
 use Rattle.tables.specs.declared.lookup.Found.{Found}
 use Rattle.tables.specs.declared.lookup.Found.TheVariants as found
-use Rattle.tables.proofs.AnchorLaws as anchor-laws
-use Rattle.tables.proofs.HandleLaws as handle-laws
+use Rattle.tables.proofs.AnchorLaws as anchor_laws
+use Rattle.tables.proofs.HandleLaws as handle_laws
 use Rattle.tables.proofs.TableLaws.{length_table}
 use Rattle.records.proofs.TokenLaws.{inside}
 use Rattle.tables.specs.Anchors.{anchor_size}
@@ -73,11 +73,11 @@ module _ {A : Type 0} (p : A → Bool) (f : ℕ → A) where
 module _ (text names : List ℕ) (n : ℕ) (name : Range) {q : Found} (e : q ≡ find text names anchor_size n name) where
   pub anchor_none : q ≡ found.Nothing → first (anchors.named text name) (anchors.anchors_of names n) ≡ Miss
   unfolding anchors.anchors_of
-  anchor_none h = first_none (anchors.named text name) (anchors.anchor_at names) 0 n (sym (anchor-laws.looked text names n name) ∙ sym e ∙ h)
+  anchor_none h = first_none (anchors.named text name) (anchors.anchor_at names) 0 n (sym (anchor_laws.looked text names n name) ∙ sym e ∙ h)
 
   pub anchor_at_lem : (i : ℕ) → q ≡ found.At i → first (anchors.named text name) (anchors.anchors_of names n) ≡ Got (anchors.anchor_at names i)
   unfolding anchors.anchors_of
-  anchor_at_lem i h = first_at (anchors.named text name) (anchors.anchor_at names) 0 n i (sym (anchor-laws.looked text names n name) ∙ sym e ∙ h)
+  anchor_at_lem i h = first_at (anchors.named text name) (anchors.anchor_at names) 0 n i (sym (anchor_laws.looked text names n name) ∙ sym e ∙ h)
 
 known-alias : (at : ℕ) (over : rules.Over) (t : Token) (h : Hit Anchor) (id : ℕ) → known_of h ≡ known.Id id
     → alias at over t h ≡ r.give at (rules.pop_state over) (r.plain 5 t.start t.end id)
@@ -225,8 +225,8 @@ place_for_lem text names n room name {q} {i} e f = sym (placed_at (find text nam
 module _ (text tags : List ℕ) (n : ℕ) (name : Range) {q : Found} (e : q ≡ find text tags handle_size n name) where
   pub handle_none : q ≡ found.Nothing → first (handles.named text name) (handles.handles_of tags n) ≡ Miss
   unfolding handles.handles_of
-  handle_none h = first_none (handles.named text name) (handles.handle_at tags) 0 n (sym (handle-laws.looked text tags n name) ∙ sym e ∙ h)
+  handle_none h = first_none (handles.named text name) (handles.handle_at tags) 0 n (sym (handle_laws.looked text tags n name) ∙ sym e ∙ h)
 
   pub handle_at_lem : (i : ℕ) → q ≡ found.At i → first (handles.named text name) (handles.handles_of tags n) ≡ Got (handles.handle_at tags i)
   unfolding handles.handles_of
-  handle_at_lem i h = first_at (handles.named text name) (handles.handle_at tags) 0 n i (sym (handle-laws.looked text tags n name) ∙ sym e ∙ h)
+  handle_at_lem i h = first_at (handles.named text name) (handles.handle_at tags) 0 n i (sym (handle_laws.looked text tags n name) ∙ sym e ∙ h)

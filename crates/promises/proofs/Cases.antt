@@ -12,8 +12,8 @@ use Rattle.records.specs.Says.{Goes, Number, read_says, checked_says}
 use Rattle.records.specs.declared.tokens.Token.{Token}
 use Rattle.records.specs.declared.tokens.Read.TheVariants as read
 use Rattle.records.specs.declared.checks.Checked.TheVariants as checked
-use Rattle.records.proofs.tokens.read_token.Reads as read-token
-use Rattle.records.proofs.checks.first_checks.Reads as first-checks
+use Rattle.records.proofs.tokens.read_token.Reads as read_token
+use Rattle.records.proofs.checks.first_checks.Reads as first_checks
 use Rattle.rules.specs.Rules.{state_machine}
 use Rattle.rules.specs.Rules.Words as r
 use Rattle.rules.specs.Run.{limit}
@@ -23,7 +23,7 @@ use Rattle.parser.specs.declared.Machine.{Machine}
 use Rattle.parser.proofs.Machine.step.Reads as step
 
 -- a record read: past the end 14 at the last token's end; a token; a bad record 21 at its index
-pub reading : (κs : _) (a : _) (x : _) (s : _) → read-token.Learnt κs a x s
+pub reading : (κs : _) (a : _) (x : _) (s : _) → read_token.Learnt κs a x s
     → read_says x
     ≡ (let b = a.0.now in
     let at = a.1.1.0 in
@@ -39,7 +39,7 @@ reading κs a x s k =
       go false false t end index = refl
 
 -- the first checks: 20, 26, 27 and 21, in this order; else how many tokens there are
-pub checking : (κs : _) (a : _) (x : _) (s : _) → first-checks.Learnt κs a x s
+pub checking : (κs : _) (a : _) (x : _) (s : _) → first_checks.Learnt κs a x s
     → checked_says x
     ≡ (let b = a.0.now in
     let size = length a.1.0.now in
