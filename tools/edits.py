@@ -19,7 +19,7 @@ KEEP = f"{ROOT}/target/edits"
 # What rt keeps of a crate for the next check, below its out/.
 KEPT = ("incremental", "rlib")
 # A message that says no more than that a name is gone.
-NAMES = re.compile(r"has no field|is not in scope|has no `|was not admitted|is no name")
+NAMES = re.compile(r"has no field|is not in scope|has no `|was not admitted|(was|were) rejected|is no name")
 
 
 def crate_of(path):
@@ -117,7 +117,7 @@ def across(path, to):
         print(f"edits.py: across/{name}: {crate} is NOT PROVED with it; rt said:\n{said[-3000:]}", flush=True)
         return 1
     said, status = run(f"{to}/crates/{by}", f"{name}.{by}", "check")
-    errors = re.findall(r"^(?:note: )?(?:\./)?((?:src|specs|proofs)/\S+:\d+:\d+): (?:error: )?(.*)$", said, re.M)
+    errors = re.findall(r"^(?:note: )?(?:\./)?((?:src|specs|proofs)/\S+:\d+:\d+): (?:error: |(?=it is not proved ))(.*)$", said, re.M)
     errors = [(at, why) for at, why in errors if not NAMES.search(why)]
     refused = status == 1 and re.search(r"^logic=not-proved", said, re.M) and "did not build" not in said
     if not (refused and errors):
