@@ -147,8 +147,8 @@ fn replay_named(rt: &(impl Files + Print + Eprint), name: &[u8]) -> io::Result<T
     Ok(totals)
 }
 
-// Argument `i`, and what its file has. None where there is no such argument; one that is too long for any
-// path counts as a file that cannot be opened.
+// What the file of argument `i` has. None where there is no such argument; of one that is too long for any
+// path nothing is taken, and no file has the name that is left.
 fn replay_argument(
     rt: &(impl Env + Files + Print + Eprint),
     i: usize,
@@ -157,10 +157,7 @@ fn replay_argument(
     match rt.arg(i, &mut path) {
         Ok(n) => Ok(Some(replay_named(rt, &path[..n])?)),
         Err(FillError::NotPresent) => Ok(None),
-        Err(FillError::TooLong) => {
-            eprintln!(rt; "argument {i} has more than 4096 bytes")?;
-            Ok(Some(one_more(none(), false)))
-        }
+        Err(FillError::TooLong) => Ok(Some(replay_named(rt, b"")?)),
     }
 }
 
