@@ -5,23 +5,19 @@ use mathlib.Core.Bool.{Bool, true, false, cond}
 use mathlib.Core.List.{List}
 use mathlib.Core.Logic.{◌⊎◌, inl, inr, ⊎_elim}
 use Prim.Native.Nat.{ℕ, ◌+◌, ◌*◌, ◌/◌, ◌≤◌, ◌<◌}
-use native.Mathlib.Nat.{mul-div-le, mul-le-mul_left, mul-suc, zero-mul, div-zero, div-le_self, le_of_lt, min-eq_left, min-eq_right}
+use native.Mathlib.Nat.{mul-div-le, mul-le-mul_left, mul-suc, div-le_self}
 use native.Mathlib.Omega.{arith}
-use borrow.Author.Tests.{ltb-true, ltb-false, lt-ltb, le-ltb}
+use borrow.Author.Tests.{ltb-true, ltb-false, lt-ltb}
 use lib.ListN.{length, get_or}
 use lib.Dec.{ltb}
 use lib.Seq.{sets, length-sets}
 use Rattle.places.specs.Words.{word, encode}
 use Rattle.places.proofs.WordLaws.{word-sets, word-sets_other, word-encode, length-encode}
-use Rattle.places.specs.Places.{places, has_place, field_of, stored, zeroed, cleared_places}
+use Rattle.places.specs.Places.{has_place, field_of, stored}
 
 -- a place that a buffer has lies in it
 pub room : (at n size : ℕ) → at < n / size → size * at + size ≤ n
 room at n size h = omega (arith, mul-div-le n size, mul-le-mul_left size h, mul-suc size at)
-
--- as many places as a buffer has lie in it
-pub most : (k n size : ℕ) → k < n / size → size * k ≤ n
-most k n size h = omega (arith, room k n size h)
 
 -- there are no more places than bytes
 pub below : (b : List ℕ) (size at : ℕ) → has_place b size at ≡ true → at < length b
@@ -31,11 +27,6 @@ below b size at h = omega (arith, ltb-true at (length b / size) h, div-le_self (
 -- a place ends before the next begins
 pub apart : (size i j : ℕ) → i < j → size * i + size ≤ size * j
 apart size i j h = omega (arith, mul-le-mul_left size h, mul-suc size i)
-
--- there are no places of no bytes
-pub no_size : (b : List ℕ) (at size : ℕ) → size ≡ 0 → has_place b size at ≡ false
-unfolding has_place
-no_size b at size e = rw e (le-ltb at (length b / 0) (omega (arith, div-zero (length b))))
 
 pub length-stored : (b : List ℕ) (at : ℕ) (ns : List ℕ) → length (stored b at ns) ≡ length b
 unfolding stored
@@ -93,16 +84,3 @@ unfolding field_of
 field_other b at ns i k h hk = rw (has_place-stored b at ns (4 * length ns) i, word_other b at ns (4 * length ns * i + 4 * k) side) where
   side : (4 * length ns * i + 4 * k + 4 ≤ 4 * length ns * at) ⊎ (4 * length ns * at + 4 * length ns ≤ 4 * length ns * i + 4 * k)
   side = ⊎_elim (λ (p : i < at). inl (omega (arith, apart (4 * length ns) i at p))) (λ (p : at < i). inr (omega (arith, apart (4 * length ns) at i p))) (sides i at h)
-
-module _ (b : List ℕ) (size n : ℕ) where
-  pub cleared_none : size ≡ 0 → b ≡ cleared_places b size n
-  unfolding cleared_places zeroed
-  cleared_none e = rw (e, zero-mul)
-
-  pub cleared_some : n < places b size → cleared_places b size n ≡ zeroed (size * n) b
-  unfolding cleared_places
-  cleared_some h = rw (min-eq_left (le_of_lt h))
-
-  pub cleared_most : places b size ≤ n → cleared_places b size n ≡ zeroed (size * places b size) b
-  unfolding cleared_places
-  cleared_most h = rw (min-eq_right h)

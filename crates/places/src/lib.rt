@@ -2,12 +2,14 @@
 // divided by the size, rounded down.
 #![tactic(auto)]
 
-ghost use Rattle.std.specs.Prelude.{◌≡◌, ◌≤◌, length};
+ghost use Rattle.std.specs.Prelude.{◌≡◌, length};
 ghost use Rattle.places.specs.Places.{field_of, Put, zeroed, cleared_places};
 
 mod words;
 
 // Field `k` of place `at` of places of `size` bytes; 0 where there is no such field or place.
+#[tactic(auto, unfolding(crate::specs::Places::field_of, crate::specs::Places::has_place))]
+#[inline(always)]
 pub fn field(bytes: &[u8], size: usize, at: usize, k: usize) -> u32
     ensures { result ≡ field_of bytes.now size at k }
 {
@@ -21,10 +23,12 @@ pub fn field(bytes: &[u8], size: usize, at: usize, k: usize) -> u32
 }
 
 // Stores the numbers in place `at`, of as many bytes as they take; whether there is that place.
+#[tactic(auto, unfolding(crate::specs::Places::stored, crate::specs::Places::has_place))]
+#[inline(always)]
 pub fn put_place(bytes: &mut [u8], at: usize, numbers: &[u32]) -> bool
     ensures { Put bytes.old at numbers.now result bytes.new }
 {
-    if numbers.len() == 0 {
+    if numbers.is_empty() {
         return false;
     }
     let size = 4 * numbers.len();
@@ -35,37 +39,22 @@ pub fn put_place(bytes: &mut [u8], at: usize, numbers: &[u32]) -> bool
     true
 }
 
-// Zeroes the first `n` bytes.
-fn clear_first(bytes: &mut [u8], n: usize)
-    requires { n ≤ length bytes.old }
-    ensures { bytes.new ≡ zeroed n bytes.old }
-{
-    let mut i = 0;
-    while i < n {
-        bytes[i] = 0;
-        i += 1;
-    }
-}
-
 // Zeroes every byte, those that make no whole place too.
+#[tactic(auto, unfolding(crate::specs::Places::zeroed))]
 pub fn clear_all(bytes: &mut [u8])
     ensures { bytes.new ≡ zeroed (length bytes.old) bytes.old }
 {
-    let n = bytes.len();
-    clear_first(bytes, n);
+    bytes.fill(0);
 }
 
 // Zeroes the first `n` places of `size` bytes; all places where there are fewer.
+#[tactic(auto, unfolding(crate::specs::Places::zeroed, crate::specs::Places::cleared_places))]
 pub fn clear_used(bytes: &mut [u8], size: usize, n: usize)
     ensures { bytes.new ≡ cleared_places bytes.old size n }
 {
     if size == 0 {
         return;
     }
-    let places = bytes.len() / size;
-    if n < places {
-        clear_first(bytes, size * n);
-        return;
-    }
-    clear_first(bytes, size * places);
+    let n = n.min(bytes.len() / size);
+    bytes[..size * n].fill(0);
 }
