@@ -1,5 +1,5 @@
 -- The walk over the kinds that bytes hold, event by event. Assumes nothing.
-use mathlib.Core.Path.{◌≡◌, refl, ap, ◌∙◌}
+use mathlib.Core.Path.{◌≡◌, refl, sym, ap, ◌∙◌}
 use mathlib.Core.Bool.{Bool, true, false}
 use mathlib.Core.List.{List, [], ◌∷◌}
 use Prim.Native.Nat.{ℕ, zero, suc, ◌+◌, ◌-◌, ◌≤◌, ◌<◌}
@@ -9,7 +9,12 @@ use lib.Dec.{ltb}
 use lib.ListN.{length}
 use borrow.Author.Tests.{ltb-true, ltb-false}
 use Rattle.places.specs.Places.{field_of, has_place}
+use Rattle.std.specs.Prelude.{Option, Some}
+use Rattle.std.proofs.lemmas.Option.{none-some}
 use Rattle.records.specs.Events.{event_at, events_of}
+use Rattle.records.specs.EventKinds.{event_number, event_kind_of}
+use Rattle.records.specs.declared.kinds.EventKind.{EventKind}
+use Rattle.records.proofs.EventKindLaws.{kind_number, number_kind}
 use Rattle.rules.specs.Walk.{kinds, Place, to, no, lead, Walked, refused, finish, onward, walk}
 use Rattle.load.specs.Load.{count, kind_at, from, answered, said}
 
@@ -31,13 +36,20 @@ module _ (bs : List ℕ) where
   unfolding from kinds events_of kind_at
   from_more i h = let e : count bs - i ≡ suc (count bs - suc i) = omega arith in rw (add-one, e)
 
-  -- no kind is read where there is no event
-  pub there : (i : ℕ) {k : ℕ} → k ≡ kind_at bs i → (k ≡ 0 → ⊥) → i < count bs
-  unfolding kind_at event_at field_of has_place
-  there i e h = go (ltb i (count bs)) refl where
-    go : (t : Bool) → ltb i (count bs) ≡ t → i < count bs
-    go true q = ltb-true i (count bs) q
-    go false q = absurd (h (e ∙ rw q))
+  -- where a kind is read there is an event, and it has the kind's number
+  module _ (i : ℕ) {kind : Option EventKind} (is : kind ≡ event_kind_of (kind_at bs i)) {x : EventKind} where
+    pub number : kind ≡ Some x → kind_at bs i ≡ event_number x
+    number e = sym (kind_number (kind_at bs i) x (sym is ∙ e))
+
+    pub not_number : (kind ≡ Some x → ⊥) → kind_at bs i ≡ event_number x → ⊥
+    not_number h e = h (is ∙ ap event_kind_of e ∙ number_kind x)
+
+    pub there : kind ≡ Some x → i < count bs
+    unfolding kind_at event_at field_of has_place event_kind_of event_number
+    there e = go (ltb i (count bs)) refl where
+      go : (t : Bool) → ltb i (count bs) ≡ t → i < count bs
+      go true q = ltb-true i (count bs) q
+      go false q = let z : kind_at bs i ≡ 0 = rw q in absurd (none-some x (ap event_kind_of (sym z) ∙ sym is ∙ e))
 
   -- an event that leads on, one that is refused, and one that cannot stand or is not there
   pub leads : (i : ℕ) (p q : Place) → i < count bs → lead p (kind_at bs i) ≡ to q → walk p (from bs i) ≡ walk q (from bs (i + 1))

@@ -3,15 +3,17 @@
 #![tactic(auto)]
 
 ghost use Rattle.std.specs.Prelude.{◌≡◌};
-ghost use Rattle.load.specs.Load.{kind_at, answered, loaded};
+ghost use Rattle.records.specs.EventKinds.{event_kind_of};
+ghost use Rattle.load.specs.Load.{kind_at, answer_of, stream_answer, loaded};
 ghost use Rattle.load.specs.Parts.{Node, Sequence, Mapping, Document};
 
 use records::events::Event;
+use records::kinds::EventKind;
 
 // How many collections may be open at once.
 pub const DEPTH: usize = 1000;
 
-// What the walk answers; the place is the index of the event at which a number is given.
+// What the walk answers; the place is the index of the event at which a number is given. Its count is always 0.
 #[derive(Clone, Copy)]
 pub struct Answer {
     pub number: u32,
@@ -19,17 +21,24 @@ pub struct Answer {
     pub place: usize,
 }
 
-// The walk's own numbers, and an answer: its count is always 0.
-impl Answer {
-    pub const UNEVEN: u32 = 20;
+// Why the walk stops, at the index of an event.
+#[derive(Clone, Copy, Debug, PartialEq, Eq)]
+enum Fault {
+    Uneven,
+    Unexpected(usize),
+    TooDeep(usize),
+}
 
-    pub const UNEXPECTED: u32 = 30;
+impl From<Fault> for Answer {
+    ghost from_gives = { λ e a. a ≡ answer_of e };
 
-    pub const TOO_DEEP: u32 = 31;
-
-    fn of(number: u32, place: usize) -> Answer
-        ensures { result ≡ answered number place }
-    {
+    #[tactic(auto, unfolding(crate::specs::Load::answered))]
+    fn from(e: Fault) -> Answer {
+        let (number, place) = match e {
+            Fault::Uneven => (20, 0),
+            Fault::Unexpected(place) => (30, place),
+            Fault::TooDeep(place) => (31, place),
+        };
         Answer {
             number,
             count: 0,
@@ -38,121 +47,104 @@ impl Answer {
     }
 }
 
-// What reading one part comes to: the index of the event after it, or a number and where it is given.
-#[derive(Drop)]
-enum Part {
-    Next(usize),
-    Refused(u32, usize),
-}
-
-// The kind of an event; 0, which is no kind, where there is no such event.
-fn kind_at(events: &[u8], at: usize) -> u32
-    ensures { result ≡ kind_at events.now at }
+// The kind of an event; none where it has no kind's number, or there is no such event.
+#[tactic(auto, unfolding(crate::specs::Load::kind_at, records::specs::Events::event_at))]
+fn kind_at(events: &[u8], at: usize) -> Option<EventKind>
+    ensures { result ≡ event_kind_of (kind_at events.now at) }
 {
-    places::field(events, Event::SIZE, at, 0)
+    EventKind::try_from(places::field(events, Event::SIZE, at, 0)).ok()
 }
 
-// A node, with room for `left` more open collections.
+// A node, with room for `left` more open collections: the index of the event after it.
 #[cycle(nodes)]
-fn load_node(events: &[u8], at: usize, left: usize) -> Part
+fn load_node(events: &[u8], at: usize, left: usize) -> Result<usize, Fault>
     ensures { Node events.now at left result }
 {
     match kind_at(events, at) {
-        Event::ALIAS => Part::Next(at + 1),
-        Event::SCALAR => Part::Next(at + 1),
-        Event::SEQUENCE_START => {
-            if left == 0 {
-                return Part::Refused(Answer::TOO_DEEP, at);
-            }
-            load_sequence(events, at + 1, left - 1)
+        Some(EventKind::Alias | EventKind::Scalar) => Ok(at + 1),
+        Some(EventKind::SequenceStart | EventKind::MappingStart) if left == 0 => {
+            Err(Fault::TooDeep(at))
         }
-        Event::MAPPING_START => {
-            if left == 0 {
-                return Part::Refused(Answer::TOO_DEEP, at);
-            }
-            load_mapping(events, at + 1, left - 1)
-        }
-        _ => Part::Refused(Answer::UNEXPECTED, at),
+        Some(EventKind::SequenceStart) => load_sequence(events, at + 1, left - 1),
+        Some(EventKind::MappingStart) => load_mapping(events, at + 1, left - 1),
+        _ => Err(Fault::Unexpected(at)),
     }
 }
 
 // A sequence behind its start: nodes up to its end, with room for `left` more open collections in each.
 #[cycle(nodes)]
-fn load_sequence(events: &[u8], at: usize, left: usize) -> Part
+fn load_sequence(events: &[u8], at: usize, left: usize) -> Result<usize, Fault>
     ensures { Sequence events.now at left result }
 {
     let mut i = at;
-    while kind_at(events, i) != Event::SEQUENCE_END {
-        let node = load_node(events, i, left);
-        let Part::Next(next) = node else {
-            return node;
-        };
-        i = next;
+    // Each node says where the next begins, so no range or iterator has these indices.
+    while kind_at(events, i) != Some(EventKind::SequenceEnd) {
+        i = load_node(events, i, left)?;
     }
-    Part::Next(i + 1)
+    Ok(i + 1)
 }
 
 // A mapping behind its start: pairs of nodes up to its end.
 #[cycle(nodes)]
-fn load_mapping(events: &[u8], at: usize, left: usize) -> Part
+fn load_mapping(events: &[u8], at: usize, left: usize) -> Result<usize, Fault>
     ensures { Mapping events.now at left result }
 {
     let mut i = at;
-    while kind_at(events, i) != Event::MAPPING_END {
-        let key = load_node(events, i, left);
-        let Part::Next(value) = key else {
-            return key;
-        };
-        let node = load_node(events, value, left);
-        let Part::Next(next) = node else {
-            return node;
-        };
-        i = next;
+    // As above: a pair says where the next begins.
+    while kind_at(events, i) != Some(EventKind::MappingEnd) {
+        let value = load_node(events, i, left)?;
+        i = load_node(events, value, left)?;
     }
-    Part::Next(i + 1)
+    Ok(i + 1)
 }
 
 // A document: its start, one node, its end.
-fn load_document(events: &[u8], at: usize) -> Part
+fn load_document(events: &[u8], at: usize) -> Result<usize, Fault>
     ensures { Document events.now at result }
 {
-    if kind_at(events, at) != Event::DOCUMENT_START {
-        return Part::Refused(Answer::UNEXPECTED, at);
+    if kind_at(events, at) != Some(EventKind::DocumentStart) {
+        return Err(Fault::Unexpected(at));
     }
-    let node = load_node(events, at + 1, DEPTH);
-    let Part::Next(end) = node else {
-        return node;
-    };
-    if kind_at(events, end) != Event::DOCUMENT_END {
-        return Part::Refused(Answer::UNEXPECTED, end);
+    let end = load_node(events, at + 1, DEPTH)?;
+    if kind_at(events, end) != Some(EventKind::DocumentEnd) {
+        return Err(Fault::Unexpected(end));
     }
-    Part::Next(end + 1)
+    Ok(end + 1)
 }
 
-// The walk over all events: a StreamStart, documents, a StreamEnd, and nothing more.
-pub fn load(events: &[u8]) -> Answer
-    ensures { result ≡ loaded events.now }
+// All events: a StreamStart, documents, a StreamEnd, and nothing more.
+fn load_stream(events: &[u8]) -> Result<(), Fault>
+    ensures { stream_answer result ≡ loaded events.now }
 {
     if events.len() % Event::SIZE != 0 {
-        return Answer::of(Answer::UNEVEN, 0);
+        return Err(Fault::Uneven);
     }
-    if kind_at(events, 0) != Event::STREAM_START {
-        return Answer::of(Answer::UNEXPECTED, 0);
+    if kind_at(events, 0) != Some(EventKind::StreamStart) {
+        return Err(Fault::Unexpected(0));
     }
     let mut at = 1;
-    while kind_at(events, at) != Event::STREAM_END {
-        match load_document(events, at) {
-            Part::Next(next) => {
-                at = next;
-            }
-            Part::Refused(number, place) => {
-                return Answer::of(number, place);
-            }
-        }
+    // As above: a document says where the next begins.
+    while kind_at(events, at) != Some(EventKind::StreamEnd) {
+        at = load_document(events, at)?;
     }
     at += 1;
     if at < events.len() / Event::SIZE {
-        return Answer::of(Answer::UNEXPECTED, at);
+        return Err(Fault::Unexpected(at));
     }
-    Answer::of(0, 0)
+    Ok(())
+}
+
+// The walk over all events.
+#[tactic(auto, unfolding(crate::specs::Load::answered))]
+pub fn load(events: &[u8]) -> Answer
+    ensures { result ≡ loaded events.now }
+{
+    match load_stream(events) {
+        Ok(()) => Answer {
+            number: 0,
+            count: 0,
+            place: 0,
+        },
+        Err(e) => e.into(),
+    }
 }

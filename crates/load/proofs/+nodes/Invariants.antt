@@ -15,14 +15,14 @@ decreases-load_node l = l.left + l.left
 abbrev pub decreases-load_sequence : goal.decreases-load_sequence
 decreases-load_sequence l = l.left + l.left + 1
 
-abbrev pub invariant-load_mapping-loop-key : goal.invariant-load_mapping-loop-key
-invariant-load_mapping-loop-key l = Been k.key l.events l.at l.left l.i
+abbrev pub invariant-load_mapping-loop-at : goal.invariant-load_mapping-loop-at
+invariant-load_mapping-loop-at l = Been k.key l.events l.at l.left l.i
 
-abbrev pub decreases-load_mapping-loop-key : goal.decreases-load_mapping-loop-key
-decreases-load_mapping-loop-key l = count l.events - l.i
+abbrev pub decreases-load_mapping-loop-at : goal.decreases-load_mapping-loop-at
+decreases-load_mapping-loop-at l = count l.events - l.i
 
-abbrev pub invariant-load_sequence-loop-node : goal.invariant-load_sequence-loop-node
-invariant-load_sequence-loop-node l = Been k.sequence l.events l.at l.left l.i
+abbrev pub invariant-load_sequence-loop-i : goal.invariant-load_sequence-loop-i
+invariant-load_sequence-loop-i l = Been k.sequence l.events l.at l.left l.i
 
-abbrev pub decreases-load_sequence-loop-node : goal.decreases-load_sequence-loop-node
-decreases-load_sequence-loop-node l = count l.events - l.i
+abbrev pub decreases-load_sequence-loop-i : goal.decreases-load_sequence-loop-i
+decreases-load_sequence-loop-i l = count l.events - l.i
