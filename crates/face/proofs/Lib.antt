@@ -1,2 +1,1 @@
-pub mod FaceLaws
 pub mod Unique

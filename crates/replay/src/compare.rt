@@ -1,226 +1,124 @@
-// What a call left behind against the answer in the file. `answ` is where that answer begins.
+// What a call left behind against the answer in the file.
+use crate::buffers::Buffers;
 use crate::bytes;
 use crate::frame::Frame;
+use records::events;
+use records::events::Tag;
 use records::names::Range;
+use std::iter;
 
-// What stands for number, count and place where the answer buffer is under 12 bytes.
+// What stands for number, count and place where the answer buffer has no room for them.
 const NOTHING: u32 = 0xFFFF_FFFF;
 
 // Tag source of the file only: prefix and suffix are parts of its side bytes.
 const SIDE: u32 = 0xFFFF_0002;
 
+// Bytes of an answer, of an event, and of its numbers before the tag.
+const ANSWER: usize = 12;
+
 const EVENT: usize = 48;
+
+const UNTAGGED: usize = 28;
+
+// The prefix that an event has as source 1.
+const YAML: &[u8] = b"tag:yaml.org,2002:";
 
 // Number `k` of the lent answer.
 fn answered(answer: &[u8], k: usize) -> u32 {
-    if answer.len() < 12 {
-        return NOTHING;
-    }
-    bytes::number(answer, 0, k)
+    answer
+        .get(..ANSWER)
+        .map_or(NOTHING, |numbers| bytes::number(numbers, k))
 }
 
 // The returned number, and the number, count and place of the answer.
-fn heads(file: &[u8], answ: usize, returned: u32, answer: &[u8]) -> bool {
-    if bytes::number(file, answ, 1) != returned {
-        return false;
-    }
-    if bytes::number(file, answ, 2) != answered(answer, 0) {
-        return false;
-    }
-    if bytes::number(file, answ, 3) != answered(answer, 1) {
-        return false;
-    }
-    bytes::number(file, answ, 4) == answered(answer, 2)
+fn same_heads(frame: &Frame<'_>, returned: u32, answer: &[u8]) -> bool {
+    bytes::number(frame.answer, 1) == returned
+        && (0..3).all(|k| bytes::number(frame.answer, k + 2) == answered(answer, k))
 }
 
 // How many events were written.
 fn written(answer: &[u8]) -> usize {
-    if answer.len() < 12 {
-        return 0;
-    }
-    bytes::length(answer, 0, 1)
+    answer
+        .get(..ANSWER)
+        .map_or(0, |numbers| bytes::length(numbers, 1))
 }
 
-// Fields `from` to `to` of event `i`, as numbers.
-fn fields(x: &[u8], y: &[u8], i: usize, from: usize, to: usize) -> bool {
-    let mut k = from;
-    while k < to {
-        if places::field(x, EVENT, i, k) != places::field(y, EVENT, i, k) {
-            return false;
-        }
-        k += 1;
-    }
-    true
+fn part(bytes: &[u8], r: Range) -> Option<&[u8]> {
+    bytes.get(r.from as usize..r.to as usize)
 }
 
-fn inside(bytes: &[u8], r: Range) -> bool {
-    if r.from > r.to {
-        return false;
-    }
-    r.to as usize <= bytes.len()
-}
-
-// Whether two ranges, each of its own bytes, hold the same.
+// Whether two ranges, each of its own bytes, lie in them and hold the same.
 fn same_parts(x: &[u8], r: Range, y: &[u8], s: Range) -> bool {
-    if !inside(x, r) {
-        return false;
+    match (part(x, r), part(y, s)) {
+        (Some(a), Some(b)) => a == b,
+        _ => false,
     }
-    if !inside(y, s) {
-        return false;
-    }
-    records::names::part_of(x, r) == records::names::part_of(y, s)
 }
 
 fn is_none(r: Range) -> bool {
-    if r.from != 0 {
-        return false;
-    }
-    r.to == 0
+    r.from == 0 && r.to == 0
 }
 
 // A tag by its bytes: the file has strings where the event has ranges of the text.
-fn tag(expected: &[u8], side: &[u8], found: &[u8], text: &[u8], i: usize) -> bool {
-    let suffix = records::names::range_at(found, EVENT, i, 10);
-    if !same_parts(
-        side,
-        records::names::range_at(expected, EVENT, i, 10),
-        text,
-        suffix,
-    ) {
-        return false;
-    }
-    let prefix = records::names::range_at(found, EVENT, i, 8);
-    let string = records::names::range_at(expected, EVENT, i, 8);
-    let source = places::field(found, EVENT, i, 7);
-    if source == 2 {
-        return same_parts(side, string, text, prefix);
-    }
-    if source != 1 {
-        return false;
-    }
-    if !is_none(prefix) {
-        return false;
-    }
-    same_parts(
-        side,
-        string,
-        b"tag:yaml.org,2002:",
-        Range { from: 0, to: 18 },
-    )
-}
-
-// One event.
-fn event(expected: &[u8], side: &[u8], found: &[u8], text: &[u8], i: usize) -> bool {
-    if !fields(expected, found, i, 0, 7) {
-        return false;
-    }
-    if places::field(expected, EVENT, i, 7) == SIDE {
-        return tag(expected, side, found, text, i);
-    }
-    fields(expected, found, i, 7, 12)
-}
-
-fn all_events(expected: &[u8], side: &[u8], found: &[u8], text: &[u8], count: usize) -> bool {
-    let mut i = 0;
-    while i < count {
-        if !event(expected, side, found, text, i) {
-            return false;
+fn same_tag(frame: &Frame<'_>, expected: Tag, found: Tag) -> bool {
+    same_parts(frame.side, expected.suffix, frame.text, found.suffix)
+        && match found.source {
+            1 => is_none(found.prefix) && part(frame.side, expected.prefix) == Some(YAML),
+            2 => same_parts(frame.side, expected.prefix, frame.text, found.prefix),
+            _ => false,
         }
-        i += 1;
+}
+
+fn tag_of(event: &[u8]) -> Tag {
+    events::event_at(event, 0).tag
+}
+
+// One event, by its bytes but for a tag.
+fn same_event(frame: &Frame<'_>, expected: &[u8], found: &[u8]) -> bool {
+    let tag = tag_of(expected);
+    if tag.source != SIDE {
+        return expected == found;
     }
-    true
+    expected.get(..UNTAGGED) == found.get(..UNTAGGED) && same_tag(frame, tag, tag_of(found))
 }
 
 // As many events as the file has, each the same.
-fn same_events(file: &[u8], f: Frame, found: &[u8], answer: &[u8]) -> bool {
-    let length = bytes::length(file, f.answer, 6);
-    let count = written(answer);
-    if length % EVENT != 0 {
-        return false;
-    }
-    if length / EVENT != count {
-        return false;
-    }
-    if length > found.len() {
-        return false;
-    }
-    let expected = bytes::part(file, f.events, length);
-    let side = bytes::part(file, f.side, bytes::length(file, f.answer, 7));
-    let text = bytes::part(file, f.text, bytes::length(file, f.case, 10));
-    all_events(expected, side, found, text, count)
+fn same_events(frame: &Frame<'_>, found: &[u8], answer: &[u8]) -> bool {
+    let length = frame.events.len();
+    let expected = frame.events.chunks_exact(EVENT);
+    length % EVENT == 0
+        && length / EVENT == written(answer)
+        && length <= found.len()
+        && iter::zip(expected, found.chunks_exact(EVENT)).all(|(x, y)| same_event(frame, x, y))
 }
 
-// Whether a flag is set as it must be.
-fn flag(flags: u32, holds: bool) -> bool {
-    (flags % 2 == 1) == holds
-}
-
-// Where the untouched part of the answer buffer begins.
-fn tail_at(answer: &[u8]) -> usize {
-    if answer.len() < 12 {
-        return 0;
-    }
-    12
-}
-
-// A work buffer's two flags: all zero, all fill.
-fn work(zero: u32, kept: u32, byte: u8, buffer: &[u8]) -> bool {
-    if !flag(zero, bytes::all(buffer, 0)) {
-        return false;
-    }
-    flag(kept, bytes::all(buffer, byte))
+// The untouched part of the answer buffer.
+fn tail(answer: &[u8]) -> &[u8] {
+    answer.get(ANSWER..).unwrap_or(answer)
 }
 
 // Flags 1 to 128: what is zero, and what is as it was.
-fn flags(
-    file: &[u8],
-    answ: usize,
-    byte: u8,
-    events: &[u8],
-    states: &[u8],
-    anchors: &[u8],
-    handles: &[u8],
-    answer: &[u8],
-) -> bool {
-    let flags = bytes::number(file, answ, 5);
-    let used = bytes::length(file, answ, 6);
-    if !flag(flags, bytes::all(bytes::rest(events, used), byte)) {
-        return false;
-    }
-    if !work(flags / 2, flags / 16, byte, states) {
-        return false;
-    }
-    if !work(flags / 4, flags / 32, byte, anchors) {
-        return false;
-    }
-    if !work(flags / 8, flags / 64, byte, handles) {
-        return false;
-    }
-    flag(
-        flags / 128,
-        bytes::all(bytes::rest(answer, tail_at(answer)), byte),
-    )
+fn same_flags(frame: &Frame<'_>, byte: u8, left: &Buffers<'_>) -> bool {
+    let flags = bytes::number(frame.answer, 5);
+    let unused = bytes::rest(left.events, frame.events.len());
+    let found = [
+        (1, bytes::all(unused, byte)),
+        (2, bytes::all(left.states, 0)),
+        (4, bytes::all(left.anchors, 0)),
+        (8, bytes::all(left.handles, 0)),
+        (16, bytes::all(left.states, byte)),
+        (32, bytes::all(left.anchors, byte)),
+        (64, bytes::all(left.handles, byte)),
+        (128, bytes::all(tail(left.answer), byte)),
+    ];
+    found
+        .iter()
+        .all(|(flag, holds)| (flags & flag != 0) == *holds)
 }
 
 // Whether all that a call leaves behind is as the answer of the frame says.
-pub fn same(
-    file: &[u8],
-    f: Frame,
-    byte: u8,
-    returned: u32,
-    events: &[u8],
-    states: &[u8],
-    anchors: &[u8],
-    handles: &[u8],
-    answer: &[u8],
-) -> bool {
-    if !heads(file, f.answer, returned, answer) {
-        return false;
-    }
-    if !same_events(file, f, events, answer) {
-        return false;
-    }
-    flags(
-        file, f.answer, byte, events, states, anchors, handles, answer,
-    )
+pub fn same(frame: &Frame<'_>, byte: u8, returned: u32, left: &Buffers<'_>) -> bool {
+    same_heads(frame, returned, left.answer)
+        && same_events(frame, left.events, left.answer)
+        && same_flags(frame, byte, left)
 }

@@ -1,4 +1,6 @@
-// Where the parts of a case and of its answer stand in a file.
+// The parts of a case and of its answer in a file.
+ghost use Rattle.std.specs.Prelude.{◌<◌, length, IfSome};
+
 use crate::bytes;
 
 // The marks `CASE` and `ANSW` as numbers.
@@ -11,55 +13,39 @@ const CASE_HEAD: usize = 44;
 
 const ANSW_HEAD: usize = 32;
 
-// A case and its answer, by the bytes where their parts begin; past the file where one is cut off.
+// A case and its answer: the numbers that each begins with, and what stands behind them.
 #[derive(Clone, Copy)]
-pub struct Frame {
-    pub case: usize,
-    pub tokens: usize,
-    pub text: usize,
-    pub answer: usize,
-    pub events: usize,
-    pub side: usize,
-    pub end: usize,
+pub(crate) struct Frame<'a> {
+    pub(crate) case: &'a [u8],
+    pub(crate) tokens: &'a [u8],
+    pub(crate) text: &'a [u8],
+    pub(crate) answer: &'a [u8],
+    pub(crate) events: &'a [u8],
+    pub(crate) side: &'a [u8],
 }
 
-// Where what follows `n` bytes at `at` begins; past the file where they are not all there.
-fn after(file: &[u8], at: usize, n: usize) -> usize {
-    if at > file.len() {
-        return usize::MAX;
+impl<'a> Frame<'a> {
+    // The case that `file` begins with, and what stands behind its answer; none where one is cut off or is none.
+    pub(crate) fn read(file: &'a [u8]) -> Option<(Frame<'a>, &'a [u8])>
+        ensures { IfSome result (λ r. length r.1.now < length file.now) }
+    {
+        let (case, file) = file.split_at_checked(CASE_HEAD)?;
+        let (tokens, file) = file.split_at_checked(bytes::length(case, 9))?;
+        let (text, file) = file.split_at_checked(bytes::length(case, 10))?;
+        let (answer, file) = file.split_at_checked(ANSW_HEAD)?;
+        let (events, file) = file.split_at_checked(bytes::length(answer, 6))?;
+        let (side, file) = file.split_at_checked(bytes::length(answer, 7))?;
+        if bytes::number(case, 0) != CASE || bytes::number(answer, 0) != ANSW {
+            return None;
+        }
+        let frame = Frame {
+            case,
+            tokens,
+            text,
+            answer,
+            events,
+            side,
+        };
+        Some((frame, file))
     }
-    if n > file.len() - at {
-        return usize::MAX;
-    }
-    at + n
-}
-
-pub fn frame_at(file: &[u8], case: usize) -> Frame {
-    let tokens = after(file, case, CASE_HEAD);
-    let text = after(file, tokens, bytes::length(file, case, 9));
-    let answer = after(file, text, bytes::length(file, case, 10));
-    let events = after(file, answer, ANSW_HEAD);
-    let side = after(file, events, bytes::length(file, answer, 6));
-    let end = after(file, side, bytes::length(file, answer, 7));
-    Frame {
-        case,
-        tokens,
-        text,
-        answer,
-        events,
-        side,
-        end,
-    }
-}
-
-// Where the next case begins; past the file where this one or its answer is cut off or is none.
-pub fn end_of(file: &[u8], case: usize) -> usize {
-    let frame = frame_at(file, case);
-    if bytes::number(file, case, 0) != CASE {
-        return usize::MAX;
-    }
-    if bytes::number(file, frame.answer, 0) != ANSW {
-        return usize::MAX;
-    }
-    frame.end
 }

@@ -5,6 +5,7 @@
 // the program with the error.
 #![tactic(auto)]
 
+mod buffers;
 mod bytes;
 mod compare;
 mod frame;
@@ -12,62 +13,55 @@ mod one;
 
 ghost use Rattle.std.specs.Prelude.{◌≤◌, length, IfOk};
 
+use crate::frame::Frame;
 use std::env::FillError;
 use std::io::Read;
-use std::num::wrapping_add_u64;
+use std::ops::Add;
 use std::rt::{Env, Files};
 use std::{fs, io, str};
 
+// What a file is read into; it has to be shorter.
+const SPACE: usize = 1048576;
+
 // How many cases were replayed, and how many of them differ.
-#[derive(Clone, Copy)]
+#[derive(Clone, Copy, Default)]
 struct Totals {
     cases: u64,
     differ: u64,
 }
 
-fn none() -> Totals {
-    Totals {
-        cases: 0,
-        differ: 0,
-    }
-}
-
-fn sum(a: Totals, b: Totals) -> Totals {
-    Totals {
-        cases: wrapping_add_u64(a.cases, b.cases),
-        differ: wrapping_add_u64(a.differ, b.differ),
-    }
-}
-
-fn one_more(so: Totals, agrees: bool) -> Totals {
-    let cases = wrapping_add_u64(so.cases, 1);
-    if agrees {
-        return Totals {
-            cases,
-            differ: so.differ,
+impl Totals {
+    // With one more case.
+    fn with(self, agrees: bool) -> Totals {
+        let case = Totals {
+            cases: 1,
+            differ: u64::from(!agrees),
         };
+        self + case
     }
-    Totals {
-        cases,
-        differ: wrapping_add_u64(so.differ, 1),
+}
+
+impl Add for Totals {
+    type Output = Totals;
+
+    fn add(self, more: Totals) -> Totals {
+        Totals {
+            cases: self.cases.wrapping_add(more.cases),
+            differ: self.differ.wrapping_add(more.differ),
+        }
     }
 }
 
 // Every case of a file. One that is cut off counts as differing, and ends it.
 fn replay(file: &[u8]) -> Totals {
-    let mut totals = none();
-    let mut at = 0;
-    while at < file.len() {
-        let next = frame::end_of(file, at);
-        if next <= at {
-            return one_more(totals, false);
-        }
-        if next > file.len() {
-            return one_more(totals, false);
-        }
-        let agrees = one::agrees(file, at);
-        totals = one_more(totals, agrees);
-        at = next;
+    let mut totals = Totals::default();
+    let mut rest = file;
+    while !rest.is_empty() {
+        let Some((frame, next)) = Frame::read(rest) else {
+            return totals.with(false);
+        };
+        totals = totals.with(one::agrees(&frame));
+        rest = next;
     }
     totals
 }
@@ -77,7 +71,8 @@ fn print_totals(rt: &impl Print, name: &[u8], totals: Totals) -> io::Result<()> 
     println!(rt; ": {} cases, {} differ", totals.cases, totals.differ)
 }
 
-// Reads until `space` is full or the file ends, and answers how much of it is used.
+// Reads until `space` is full or the file ends, and answers how much of it is used. The loop stays: of std, `read_exact`
+// does not say how far it came, and `read_to_end` takes memory.
 fn read_full(file: &mut impl Read, space: &mut [u8]) -> io::Result<usize>
     ensures { IfOk result (λ n. n ≤ length space.new) }
 {
@@ -119,30 +114,22 @@ fn read(rt: &(impl Files + Eprint), name: &[u8], space: &mut [u8]) -> io::Result
 }
 
 // A file that is empty, cannot be opened or does not fit counts as one case that differs.
-fn replay_file(rt: &(impl Files + Eprint), name: &[u8], space: &mut [u8]) -> io::Result<Totals> {
-    let n = read(rt, name, space)?;
-    if n == 0 {
-        return Ok(one_more(none(), false));
-    }
-    if n >= space.len() {
-        return Ok(one_more(none(), false));
-    }
-    Ok(replay(bytes::part(space, 0, n)))
-}
-
-// The array as a slice: its length is known from its type.
-fn replay_in(
+fn replay_file(
     rt: &(impl Files + Eprint),
     name: &[u8],
-    space: &mut [u8; 1048576],
+    space: &mut [u8; SPACE],
 ) -> io::Result<Totals> {
-    replay_file(rt, name, space)
+    let n = read(rt, name, space)?;
+    if n == 0 || n >= space.len() {
+        return Ok(Totals::default().with(false));
+    }
+    Ok(replay(&space[..n]))
 }
 
-// A file of up to 1,048,575 bytes, and its line.
+// A file, and its line.
 fn replay_named(rt: &(impl Files + Print + Eprint), name: &[u8]) -> io::Result<Totals> {
-    let mut space = [0u8; 1048576];
-    let totals = replay_in(rt, name, &mut space)?;
+    let mut space = [0u8; SPACE];
+    let totals = replay_file(rt, name, &mut space)?;
     print_totals(rt, name, totals)?;
     Ok(totals)
 }
@@ -162,12 +149,12 @@ fn replay_argument(
 }
 
 fn replay_all(rt: &(impl Env + Files + Print + Eprint)) -> io::Result<Totals> {
-    let mut totals = none();
+    let mut totals = Totals::default();
     for i in 1..usize::MAX {
         let Some(more) = replay_argument(rt, i)? else {
             break;
         };
-        totals = sum(totals, more);
+        totals = totals + more;
     }
     Ok(totals)
 }

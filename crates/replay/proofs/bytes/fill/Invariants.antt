@@ -1,6 +1,0 @@
--- The bytes left to fill fall.
-use Rattle.std.proofs.Common.{length, ◌-◌}
-use Rattle.replay.proofs.bytes.fill.Given as goal
-
-abbrev pub decreases-loop-i : goal.decreases-loop-i
-decreases-loop-i l = length l.initial.bytes - l.i
