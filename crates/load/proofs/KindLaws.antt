@@ -36,7 +36,15 @@ module _ (bs : List ℕ) where
   unfolding from kinds events_of kind_at
   from_more i h = let e : count bs - i ≡ suc (count bs - suc i) = omega arith in rw (add-one, e)
 
-  -- where a kind is read there is an event, and it has the kind's number
+  -- no kind is read where there is no event
+  pub there : (i : ℕ) {k : ℕ} → k ≡ kind_at bs i → (k ≡ 0 → ⊥) → i < count bs
+  unfolding kind_at event_at field_of has_place
+  there i e h = go (ltb i (count bs)) refl where
+    go : (t : Bool) → ltb i (count bs) ≡ t → i < count bs
+    go true q = ltb-true i (count bs) q
+    go false q = absurd (h (e ∙ rw q))
+
+  -- where a kind is found it has the number that is read, and there is an event
   module _ (i : ℕ) {kind : Option EventKind} (is : kind ≡ event_kind_of (kind_at bs i)) {x : EventKind} where
     pub number : kind ≡ Some x → kind_at bs i ≡ event_number x
     number e = sym (kind_number (kind_at bs i) x (sym is ∙ e))
@@ -44,12 +52,9 @@ module _ (bs : List ℕ) where
     pub not_number : (kind ≡ Some x → ⊥) → kind_at bs i ≡ event_number x → ⊥
     not_number h e = h (is ∙ ap event_kind_of e ∙ number_kind x)
 
-    pub there : kind ≡ Some x → i < count bs
-    unfolding kind_at event_at field_of has_place event_kind_of event_number
-    there e = go (ltb i (count bs)) refl where
-      go : (t : Bool) → ltb i (count bs) ≡ t → i < count bs
-      go true q = ltb-true i (count bs) q
-      go false q = let z : kind_at bs i ≡ 0 = rw q in absurd (none-some x (ap event_kind_of (sym z) ∙ sym is ∙ e))
+    pub found : kind ≡ Some x → i < count bs
+    unfolding event_kind_of event_number
+    found e = there i refl (λ z. none-some x (ap event_kind_of (sym z) ∙ sym is ∙ e))
 
   -- an event that leads on, one that is refused, and one that cannot stand or is not there
   pub leads : (i : ℕ) (p q : Place) → i < count bs → lead p (kind_at bs i) ≡ to q → walk p (from bs i) ≡ walk q (from bs (i + 1))

@@ -18,7 +18,7 @@ use Rattle.load.specs.Load.{count, kind_at, from, number_of, place_of, answered,
 use Rattle.load.specs.Parts.{part_says, Further, onto, Node, Collection, Sequence, Mapping, Document}
 use Rattle.load.specs.declared.Fault.{Fault}
 use Rattle.load.specs.declared.Fault.TheVariants.{Uneven, Unexpected, TooDeep}
-use Rattle.load.proofs.KindLaws.{number, not_number, there, leads, stops, cannot, said_at, from_none}
+use Rattle.load.proofs.KindLaws.{number, not_number, found, leads, stops, cannot, said_at, from_none}
 
 -- a part behind one event
 further_more : (bs : List ℕ) (at : ℕ) (s : Says ℕ) → at < count bs → Further bs (at + 1) s → Further bs at s
@@ -34,7 +34,7 @@ module _ {bs : List ℕ} {at left : ℕ} {kind : Option EventKind} (is : kind �
   node_one : {x : EventKind} → kind ≡ Some x → ((o : List Open) → begin o (event_number x) ≡ to (ended o))
       → Node bs at left (Ok (at + 1))
   unfolding lead
-  node_one q h = let l = there bs at is q in record {
+  node_one q h = let l = found bs at is q in record {
     further = (omega arith, omega (arith, l));
     reads = λ o d b. leads bs at (inside o) (ended o) l (b ∙ rw (number bs at is q) (h o));
   }
@@ -77,18 +77,18 @@ module _ {bs : List ℕ} {at left : ℕ} {kind : Option EventKind} (is : kind �
 
   pub node_deep : (kind ≡ Some e.SequenceStart) ⊎ (kind ≡ Some e.MappingStart) → left ≡ 0 → Node bs at left (Err (TooDeep at))
   unfolding event_number begin
-  node_deep (inl q) = node_full k.sequence (there bs at is q) (λ o. rw (number bs at is q))
-  node_deep (inr q) = node_full k.key (there bs at is q) (λ o. rw (number bs at is q))
+  node_deep (inl q) = node_full k.sequence (found bs at is q) (λ o. rw (number bs at is q))
+  node_deep (inr q) = node_full k.key (found bs at is q) (λ o. rw (number bs at is q))
 
   pub node_sequence : {r : Result ℕ Fault} → kind ≡ Some e.SequenceStart → (left ≡ 0 → ⊥)
       → Sequence bs (at + 1) (left - 1) r → Node bs at left r
   unfolding event_number begin
-  node_sequence q = node_open k.sequence (there bs at is q) (λ o. rw (number bs at is q))
+  node_sequence q = node_open k.sequence (found bs at is q) (λ o. rw (number bs at is q))
 
   pub node_mapping : {r : Result ℕ Fault} → kind ≡ Some e.MappingStart → (left ≡ 0 → ⊥)
       → Mapping bs (at + 1) (left - 1) r → Node bs at left r
   unfolding event_number begin
-  node_mapping q = node_open k.key (there bs at is q) (λ o. rw (number bs at is q))
+  node_mapping q = node_open k.key (found bs at is q) (λ o. rw (number bs at is q))
 
 -- one entry of a collection: a node, or a pair of nodes
 pub record Entry (x : Open) (bs : List ℕ) (i left : ℕ) (r : Result ℕ Fault) : Type 0 where
@@ -100,6 +100,9 @@ pub record Been (x : Open) (bs : List ℕ) (at left i : ℕ) : Type 0 where
   pub from_at : at ≤ i
   pub in_bounds : i ≤ max at (count bs)
   pub reads : (o : List Open) → suc (length o + left) ≡ 1000 → walk (inside (x ∷ o)) (from bs at) ≡ walk (inside (x ∷ o)) (from bs i)
+
+pub been_none : {x : Open} {bs : List ℕ} {at left : ℕ} → Been x bs at left at
+been_none = record { from_at = omega arith; in_bounds = omega arith; reads = λ o l. refl }
 
 module _ {x : Open} {bs : List ℕ} {at left i : ℕ} (b : Been x bs at left i) where
   pub been_more : {j : ℕ} → Entry x bs i left (Ok j) → Been x bs at left j
@@ -118,7 +121,7 @@ module _ {x : Open} {bs : List ℕ} {at left i : ℕ} (b : Been x bs at left i) 
   been_end : {kind : Option EventKind} → kind ≡ event_kind_of (kind_at bs i) → {y : EventKind} → kind ≡ Some y
       → ((o : List Open) → within (x ∷ o) (event_number y) ≡ to (ended o)) → Collection x bs at left (Ok (i + 1))
   unfolding lead
-  been_end is q h = let l = there bs i is q in record {
+  been_end is q h = let l = found bs i is q in record {
     further = (omega (arith, b.from_at), omega (arith, l));
     reads = λ o d. b.reads o d ∙ leads bs i (inside (x ∷ o)) (ended o) l (rw (number bs i is q) (h o));
   }
@@ -162,7 +165,7 @@ module _ {bs : List ℕ} {i left : ℕ} {kind : Option EventKind} (is : kind ≡
 inner : (bs : List ℕ) (at : ℕ) {kind : Option EventKind} {r : Result ℕ Fault} → kind ≡ event_kind_of (kind_at bs at)
     → kind ≡ Some e.DocumentStart → Node bs (at + 1) 1000 r → walk between (from bs at) ≡ onto bs after (part_says r)
 unfolding event_number lead within
-inner bs at is q node = leads bs at between (inside []) (there bs at is q) (rw (number bs at is q)) ∙ node.reads [] refl refl
+inner bs at is q node = leads bs at between (inside []) (found bs at is q) (rw (number bs at is q)) ∙ node.reads [] refl refl
 
 module _ {bs : List ℕ} {at : ℕ} {kind : Option EventKind} (is : kind ≡ event_kind_of (kind_at bs at)) where
   pub document_no : (kind ≡ Some e.DocumentStart → ⊥) → Document bs at (Err (Unexpected at))
@@ -175,7 +178,7 @@ module _ {bs : List ℕ} {at : ℕ} {kind : Option EventKind} (is : kind ≡ eve
   module _ (opens : kind ≡ Some e.DocumentStart) where
     pub document_node : {n : Fault} → Node bs (at + 1) 1000 (Err n) → Document bs at (Err n)
     document_node {n = n} node = record {
-      further = further_more bs at (part_says (Err n)) (there bs at is opens) node.further;
+      further = further_more bs at (part_says (Err n)) (found bs at is opens) node.further;
       reads = λ z. inner bs at is opens node;
     }
 
@@ -189,7 +192,7 @@ module _ {bs : List ℕ} {at : ℕ} {kind : Option EventKind} (is : kind ≡ eve
 
       pub document_end : next ≡ Some e.DocumentEnd → Document bs at (Ok (j + 1))
       unfolding event_number lead
-      document_end q = let l = there bs j then q in record {
+      document_end q = let l = found bs j then q in record {
         further = (omega (arith, node.further.0), omega (arith, l));
         reads = λ z. inner bs at is opens node ∙ leads bs j after between l (rw (number bs j then q));
       }
@@ -206,7 +209,7 @@ uneven bs h = rw (ne_eqb (length bs % event_size) 0 h)
 
 pub started : {bs : List ℕ} {kind : Option EventKind} → kind ≡ event_kind_of (kind_at bs 0) → kind ≡ Some e.StreamStart → Read bs 1
 unfolding event_number lead
-started {bs = bs} is q = let l = there bs 0 is q in record {
+started {bs = bs} is q = let l = found bs 0 is q in record {
   in_bounds = omega (arith, l);
   reads = leads bs 0 outside between l (rw (number bs 0 is q));
 }
@@ -239,7 +242,7 @@ module _ (bs : List ℕ) (whole : length bs % event_size ≡ 0) where
     module _ (end : kind ≡ Some e.StreamEnd) where
       ends : walk outside (from bs 0) ≡ walk over (from bs (i + 1))
       unfolding event_number lead
-      ends = b.reads ∙ leads bs i between over (there bs i is end) (rw (number bs i is end))
+      ends = b.reads ∙ leads bs i between over (found bs i is end) (rw (number bs i is end))
 
       pub not_over : i + 1 < count bs → answer_of (Unexpected (i + 1)) ≡ loaded bs
       unfolding lead

@@ -21,6 +21,15 @@ pub struct Answer {
     pub place: usize,
 }
 
+// The walk's own numbers.
+impl Answer {
+    pub const UNEVEN: u32 = 20;
+
+    pub const UNEXPECTED: u32 = 30;
+
+    pub const TOO_DEEP: u32 = 31;
+}
+
 // Why the walk stops, at the index of an event.
 #[derive(Clone, Copy, Debug, PartialEq, Eq)]
 enum Fault {
@@ -35,9 +44,9 @@ impl From<Fault> for Answer {
     #[tactic(auto, unfolding(crate::specs::Load::answered))]
     fn from(e: Fault) -> Answer {
         let (number, place) = match e {
-            Fault::Uneven => (20, 0),
-            Fault::Unexpected(place) => (30, place),
-            Fault::TooDeep(place) => (31, place),
+            Fault::Uneven => (Answer::UNEVEN, 0),
+            Fault::Unexpected(place) => (Answer::UNEXPECTED, place),
+            Fault::TooDeep(place) => (Answer::TOO_DEEP, place),
         };
         Answer {
             number,
@@ -55,8 +64,10 @@ fn kind_at(events: &[u8], at: usize) -> Option<EventKind>
     EventKind::try_from(places::field(events, Event::SIZE, at, 0)).ok()
 }
 
-// A node, with room for `left` more open collections: the index of the event after it.
+// A node, with room for `left` more open collections: the index of the event after it. It is put into the three that call it,
+// so that a collection is one call and a scalar none.
 #[cycle(nodes)]
+#[inline(always)]
 fn load_node(events: &[u8], at: usize, left: usize) -> Result<usize, Fault>
     ensures { Node events.now at left result }
 {

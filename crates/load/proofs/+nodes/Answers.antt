@@ -2,7 +2,7 @@
 use Rattle.std.proofs.Common.{arith}
 use Rattle.std.proofs.lemmas.Result.{err_from_is_err_and}
 use Rattle.records.specs.declared.kinds.EventKind.TheVariants as e
-use Rattle.load.proofs.KindLaws.{there}
+use Rattle.load.proofs.KindLaws.{found}
 use Rattle.load.proofs.PartLaws as part
 use Rattle.load.proofs.+nodes.Goals as goal
 
@@ -23,7 +23,7 @@ load_mapping-loop-at-preserved t c =
 
 pub load_mapping-overflow_add-result : goal.load_mapping-overflow_add-result
 load_mapping-overflow_add-result t c =
-    omega (arith, there c.args.events.now c.loop-at.i c.kind_at.ensures {x = e.MappingEnd} (grind arith), c.well_formed)
+    omega (arith, found c.args.events.now c.loop-at.i c.kind_at.ensures {x = e.MappingEnd} (grind arith), c.well_formed)
 
 pub load_mapping-returns : goal.load_mapping-returns
 load_mapping-returns t c = part.mapping_end c.kind_at.ensures c.loop-at.invariant (grind arith)
@@ -39,22 +39,22 @@ load_sequence-loop-i-preserved t c =
 
 pub load_sequence-overflow_add-result : goal.load_sequence-overflow_add-result
 load_sequence-overflow_add-result t c =
-    omega (arith, there c.args.events.now c.loop-i.i c.kind_at.ensures {x = e.SequenceEnd} (grind arith), c.well_formed)
+    omega (arith, found c.args.events.now c.loop-i.i c.kind_at.ensures {x = e.SequenceEnd} (grind arith), c.well_formed)
 
 pub load_sequence-returns : goal.load_sequence-returns
 load_sequence-returns t c = part.sequence_end c.kind_at.ensures c.loop-i.invariant (grind arith)
 
 pub load_node-overflow_add-result : goal.load_node-overflow_add-result
 load_node-overflow_add-result t c =
-    omega (arith, there c.args.events.now c.args.at c.kind_at.ensures c.in-Some-Alias.is, c.well_formed)
+    omega (arith, found c.args.events.now c.args.at c.kind_at.ensures c.in-Some-Alias.is, c.well_formed)
 
 pub load_node-overflow_add-at : goal.load_node-overflow_add-at
 load_node-overflow_add-at t c =
-    omega (arith, there c.args.events.now c.args.at c.kind_at.ensures c.in-Some-SequenceStart-2.is, c.well_formed)
+    omega (arith, found c.args.events.now c.args.at c.kind_at.ensures c.in-Some-SequenceStart-2.is, c.well_formed)
 
 pub load_node-overflow_add-at-in-Some-MappingStart : goal.load_node-overflow_add-at-in-Some-MappingStart
 load_node-overflow_add-at-in-Some-MappingStart t c =
-    omega (arith, there c.args.events.now c.args.at c.kind_at.ensures c.in-Some-MappingStart.is, c.well_formed)
+    omega (arith, found c.args.events.now c.args.at c.kind_at.ensures c.in-Some-MappingStart.is, c.well_formed)
 
 pub load_node-returns-in-Some-Alias : goal.load_node-returns-in-Some-Alias
 load_node-returns-in-Some-Alias t c = part.node_leaf c.kind_at.ensures (grind arith)

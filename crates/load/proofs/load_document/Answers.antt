@@ -1,7 +1,7 @@
 use native.Mathlib.Omega.{arith}
 use Rattle.std.proofs.lemmas.Result.{err_from_is_err_and}
 use Rattle.records.specs.declared.kinds.EventKind.TheVariants.{DocumentStart}
-use Rattle.load.proofs.KindLaws.{there}
+use Rattle.load.proofs.KindLaws.{found}
 use Rattle.load.proofs.PartLaws.{document_no, document_node, document_open, document_end}
 use Rattle.load.proofs.load_document.Goals as goal
 
@@ -10,7 +10,7 @@ returns-then-ne c = document_no c.kind_at.ensures (λ z. grind arith)
 
 pub overflow_add-at : goal.overflow_add-at
 overflow_add-at c =
-    omega (arith, there c.args.events.now c.args.at c.kind_at.ensures {x = DocumentStart} (grind arith), c.well_formed)
+    omega (arith, found c.args.events.now c.args.at c.kind_at.ensures {x = DocumentStart} (grind arith), c.well_formed)
 
 pub returns-in_err-end : goal.returns-in_err-end
 returns-in_err-end c =
