@@ -15,7 +15,7 @@ pub fn rest(bytes: &[u8], at: usize) -> &[u8] {
     bytes.get(at..).unwrap_or(&[])
 }
 
-// Whether every byte is this one.
+// Whether every byte is this one. All are looked at, so that the loop has one way out and takes many bytes at once.
 pub fn all(bytes: &[u8], byte: u8) -> bool {
-    bytes.iter().all(|b| *b == byte)
+    bytes.iter().fold(true, |so_far, b| so_far & (*b == byte))
 }
